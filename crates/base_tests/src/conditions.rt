@@ -1,5 +1,6 @@
 ghost use Rattle.std.specs.Prelude.{◌≤◌, IfOk};
 
+use answer_lanes::Lane;
 use panel_conditions::{Finding, Hold, Outside};
 use site_types::{
     Buzzer, Item, Label, Operation, Point, PointSet, Retained, Rule, Site, Waits, Zone,
@@ -7,7 +8,7 @@ use site_types::{
 use std::alloc::Global;
 use std::process::Abort;
 use std::test::Fail;
-use tick_units::{Items, Lane, Tick};
+use tick_units::{Items, Tick};
 
 // Zone 1 of no type, with a point at address 9; zone 2 of type B, whose two detectors may be 600 ticks apart.
 fn site(alloc: Global) -> Result<Site, Fail> {

@@ -8,6 +8,8 @@
 #[cfg(test)]
 mod conditions;
 #[cfg(test)]
+mod lanes;
+#[cfg(test)]
 mod levels;
 #[cfg(test)]
 mod links;

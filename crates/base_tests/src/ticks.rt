@@ -1,9 +1,6 @@
-use arrayvec::ArrayVec;
 use std::process::Abort;
 use std::test::Fail;
-use tick_units::{
-    BadOrder, LAST_TICK, Lane, Order, Seat, Switch, Task, Tick, TickLimit, next_tick,
-};
+use tick_units::{BadOrder, LAST_TICK, Order, Seat, Switch, Task, Tick, TickLimit, next_tick};
 
 const fn seat(panel: u8, task: Task) -> Seat {
     Seat { panel, task }
@@ -73,27 +70,6 @@ fn lists_are_taken_or_refused(rt: HostRuntime) {
         seat: seat(1, Task::Poll),
     };
     assert_eq!(rt; Order::new(&seats[2..8], 1).err(), Some(drive));
-}
-
-#[test]
-fn a_full_lane_is_emptied_in_two_turns(rt: HostRuntime) -> Result<(), Fail> {
-    let mut lane = Lane::new(rt.alloc(), 32, 64)?;
-    for item in 0..64 {
-        lane.put(item);
-    }
-    for turn in 0..3 {
-        let mut taken: ArrayVec<u64, 32> = ArrayVec::new();
-        lane.take_turn(&mut taken);
-        assert_eq!(rt; taken.len(), if turn < 2 { 32 } else { 0 });
-        for (place, item) in taken.iter().enumerate() {
-            assert_eq!(rt; *item, 32 * turn + place as u64);
-        }
-    }
-    assert_eq!(rt;
-        (lane.len(), lane.put_count(), lane.taken_count()),
-        (0, 64, 64)
-    );
-    Ok(())
 }
 
 #[test]

@@ -2,13 +2,13 @@
 use Rattle.std.proofs.Common.{◌≡◌, ◌≤◌, ◌<◌, ◌==◌, ◌+◌, ◌-◌, ◌&&◌, ◌||◌, ◌⊎◌, inl, inr, ℕ, zero, suc, Bool, true}
 use Rattle.std.proofs.Common.{false, List, [], ◌∷◌, Option, Some, nat_eq, length, take, get_or, refl, sym, ap, subst}
 use Rattle.std.proofs.Common.{◌∙◌, arith, if◌then◌else◌}
-use Rattle.std.specs.Prelude.{slice_get, slice_index_or, slice_set}
+use Rattle.std.specs.Prelude.{slice_get}
 use Rattle.std.specs.List.{list_any, IsDistinct}
 use Rattle.std.proofs.lemmas.Bool.{cases_lt}
 use Rattle.std.specs.Cmp.Lexicographic.{pointwise}
 use Rattle.std.proofs.lemmas.Bool.Decides.{Decides-eqb, eqb_tells}
 use Rattle.std.proofs.lemmas.Slice.Eq.{slice_eq-Decides}
-use Rattle.std.proofs.lemmas.List.{get_or-set_same, get_or-set_other, take_all}
+use Rattle.std.proofs.lemmas.List.{take_all}
 use Rattle.std.proofs.lemmas.Map.Keys.{apart_from_distinct}
 use Rattle.std.proofs.lemmas.Option.{get_or_from_slice_get, slice_get_within}
 use Rattle.site_types.specs.Bits.{has_bit}
@@ -18,17 +18,17 @@ use Rattle.site_types.specs.declared.marker.Marker.{Marker}
 use Rattle.site_types.specs.declared.term.Term.{Term}
 use Rattle.site_types.specs.declared.term.Term.TheVariants.{Zone as ZoneTerm, Manual as ManualTerm, Fault as FaultTerm, Marker as MarkerTerm}
 use Rattle.marker_table.specs.declared.facts.Facts.{Facts}
-use Rattle.marker_table.specs.Equations.{equation, zone_bit}
+use Rattle.marker_table.specs.declared.values.Values.{Values}
+use Rattle.marker_table.specs.Equations.{equation, values_of, zone_bit}
 use Rattle.cause_effect.specs.Changes.{differ, is_changed, has_changed, DependsOnChanged, directly, through, RoseByNumberOf}
 use Rattle.cause_effect.specs.Cycles.{has_term, is_among, terms_of, HasNoCycle}
 use Rattle.cause_effect.specs.Orders.{IsOrder}
 use Rattle.cause_effect.specs.Solutions.{IsSolution}
-use Rattle.cause_effect.specs.Users.{is_marked}
 use Rattle.cause_effect.proofs.Depths.{none_equal, same_solution, the_values, the_values_solve}
 use Rattle.cause_effect.proofs.Equations.{equation_same, has_within}
 use Rattle.cause_effect.proofs.Kept.{differ_self, not_true, value_kept}
 use Rattle.cause_effect.proofs.Orders.{order_is_free, stands}
-use Rattle.cause_effect.proofs.Solving.{among_more, is_solution, no_marker}
+use Rattle.cause_effect.proofs.Solving.{among_more, is_solution, no_marker, Puts}
 use Rattle.cause_effect.proofs.Truths.{and_first, and_second, equal_number, number_is, or_left, or_right}
 
 -- ---- one marker more of a front
@@ -79,14 +79,14 @@ fresh_next order k x once at = not_true (is_among x (take k order)) (λ h.
 
 -- A marker is marked where a fact that changed is among its terms, or one of the first k markers that depends
 -- on such a fact; and only where it depends on one itself.
-pub record AreMarked (site : Site) (before after : Facts) (order : List ℕ) (k : ℕ) (marks : List Bool) : Type 0 where
-  pub by_fact : (m : ℕ) → m < 256 → has_changed site before after m ≡ true → is_marked marks m ≡ true
+pub record AreMarked (site : Site) (before after : Facts) (order : List ℕ) (k : ℕ) (marks : Values) : Type 0 where
+  pub by_fact : (m : ℕ) → m < 256 → has_changed site before after m ≡ true → values_of marks m ≡ true
   pub by_marker : (m other : ℕ) → m < 256 → has_term site m other ≡ true → is_among other (take k order) ≡ true
-      → DependsOnChanged site before after other → is_marked marks m ≡ true
-  pub only : (m : ℕ) → m < 256 → is_marked marks m ≡ true → DependsOnChanged site before after m
+      → DependsOnChanged site before after other → values_of marks m ≡ true
+  pub only : (m : ℕ) → m < 256 → values_of marks m ≡ true → DependsOnChanged site before after m
 
-pub marked_first : (site : Site) (before after : Facts) (order : List ℕ) (marks : List Bool)
-    → ((m : ℕ) → m < 256 → is_marked marks m ≡ has_changed site before after m) →
+pub marked_first : (site : Site) (before after : Facts) (order : List ℕ) (marks : Values)
+    → ((m : ℕ) → m < 256 → values_of marks m ≡ has_changed site before after m) →
     AreMarked site before after order 0 marks
 marked_first site before after order marks same = record {
   by_fact = λ m fits h. same m fits ∙ h;
@@ -95,30 +95,30 @@ marked_first site before after order marks same = record {
 }
 
 -- the next marker is marked where it depends on a change
-pub marked_here : (site : Site) (before after : Facts) (order : List ℕ) (k x : ℕ) (marks : List Bool) → IsOrder site order
+pub marked_here : (site : Site) (before after : Facts) (order : List ℕ) (k x : ℕ) (marks : Values) → IsOrder site order
     → slice_get order k ≡ Some x → x < 256 →
-    AreMarked site before after order k marks → DependsOnChanged site before after x → is_marked marks x ≡ true
+    AreMarked site before after order k marks → DependsOnChanged site before after x → values_of marks x ≡ true
 marked_here site before after order k x marks is at fits w (directly m h) = w.by_fact m fits h
 marked_here site before after order k x marks is at fits w (through m next term d) = w.by_marker m next fits term (is.rising k m next at term) d
 
 -- the users of a marker that depends on a change are marked too
-pub marked_on : (site : Site) (before after : Facts) (order : List ℕ) (k x : ℕ) (marks more : List Bool) → slice_get order k ≡ Some x →
+pub marked_on : (site : Site) (before after : Facts) (order : List ℕ) (k x : ℕ) (marks more : Values) → slice_get order k ≡ Some x →
     AreMarked site before after order k marks → DependsOnChanged site before after x
-    → ((m : ℕ) → m < 256 → is_marked more m ≡ (is_marked marks m || has_term site m x)) →
+    → ((m : ℕ) → m < 256 → values_of more m ≡ (values_of marks m || has_term site m x)) →
     AreMarked site before after order (k + 1) more
 marked_on site before after order k x marks more at w depends same = record {
-  by_fact = λ m fits h. same m fits ∙ or_left (is_marked marks m) (has_term site m x) (w.by_fact m fits h);
+  by_fact = λ m fits h. same m fits ∙ or_left (values_of marks m) (has_term site m x) (w.by_fact m fits h);
   by_marker = λ m other fits term among d. same m fits ∙ elim (next_cases order k x other at among) [
-    | inl earlier ↦ or_left (is_marked marks m) (has_term site m x) (w.by_marker m other fits term earlier d)
-    | inr here ↦ or_right (is_marked marks m) (has_term site m x) (subst (λ n. has_term site m n ≡ true) here term)
+    | inl earlier ↦ or_left (values_of marks m) (has_term site m x) (w.by_marker m other fits term earlier d)
+    | inr here ↦ or_right (values_of marks m) (has_term site m x) (subst (λ n. has_term site m n ≡ true) here term)
   ];
-  only = λ m fits h. elim (or_cases (is_marked marks m) (has_term site m x) (sym (same m fits) ∙ h)) [
+  only = λ m fits h. elim (or_cases (values_of marks m) (has_term site m x) (sym (same m fits) ∙ h)) [
     | inl marked ↦ w.only m fits marked
     | inr term ↦ through m x term depends
   ];
 }
 
-pub marked_still : (site : Site) (before after : Facts) (order : List ℕ) (k x : ℕ) (marks : List Bool) → slice_get order k ≡ Some x →
+pub marked_still : (site : Site) (before after : Facts) (order : List ℕ) (k x : ℕ) (marks : Values) → slice_get order k ≡ Some x →
     AreMarked site before after order k marks → (DependsOnChanged site before after x → ⊥) → AreMarked site before after order (k + 1) marks
 marked_still site before after order k x marks at w free = record {
   by_fact = w.by_fact;
@@ -220,14 +220,14 @@ evaluated_all site before after order k start steps is done w = (
 -- ---- values
 
 -- the first k markers of the order have their values after the change, the others those before it
-pub record AreCarried (site : Site) (before after : Facts) (order : List ℕ) (k : ℕ) (marker : List Bool) : Type 0 where
-  pub each : (m : ℕ) → slice_index_or marker m false ≡ (if is_among m (take k order) then the_values site after m else the_values site before m)
+pub record AreCarried (site : Site) (before after : Facts) (order : List ℕ) (k : ℕ) (v : ℕ → Bool) : Type 0 where
+  pub each : (m : ℕ) → v m ≡ (if is_among m (take k order) then the_values site after m else the_values site before m)
 
-pub carried_first : (site : Site) (before after : Facts) (order : List ℕ) (marker : List Bool) → IsOrder site order
-    → IsSolution site before (λ m. slice_index_or marker m false) →
-    AreCarried site before after order 0 marker
-carried_first site before after order marker is solves = record {
-  each = λ m. same_solution site before (λ m. slice_index_or marker m false) (the_values site before) (order_is_free site order is) solves
+pub carried_first : (site : Site) (before after : Facts) (order : List ℕ) (v : ℕ → Bool) → IsOrder site order
+    → IsSolution site before v →
+    AreCarried site before after order 0 v
+carried_first site before after order v is solves = record {
+  each = λ m. same_solution site before v (the_values site before) (order_is_free site order is) solves
       (the_values_solve site before (order_is_free site order is)) m;
 }
 
@@ -236,11 +236,11 @@ front_value true x y e = refl
 front_value false x y e = cc
 
 -- what its terms make of the next marker is its value after the change
-pub next_changed : (site : Site) (before after : Facts) (order : List ℕ) (k x : ℕ) (marker : List Bool) → IsOrder site order
+pub next_changed : (site : Site) (before after : Facts) (order : List ℕ) (k x : ℕ) (v : ℕ → Bool) → IsOrder site order
     → slice_get order k ≡ Some x →
-    AreCarried site before after order k marker → equation site after (λ m. slice_index_or marker m false) x ≡ the_values site after x
-next_changed site before after order k x marker is at known =
-    equation_same site after (λ m. slice_index_or marker m false) (the_values site after) x
+    AreCarried site before after order k v → equation site after v x ≡ the_values site after x
+next_changed site before after order k x v is at known =
+    equation_same site after v (the_values site after) x
     (λ other term. known.each other ∙ front_value (is_among other (take k order)) (the_values site after other) (the_values site before other)
     (is.rising k x other at term)) ∙
     sym (the_values_solve site after (order_is_free site order is) x)
@@ -256,16 +256,16 @@ either : (b : Bool) (x y : Bool) → y ≡ x → (if b then x else y) ≡ x
 either true x y e = refl
 either false x y e = e
 
-pub carried_still : (site : Site) (before after : Facts) (order : List ℕ) (k x : ℕ) (marker : List Bool) → slice_get order k ≡ Some x →
-    AreCarried site before after order k marker → (DependsOnChanged site before after x → ⊥) → AreCarried site before after order (k + 1) marker
-carried_still site before after order k x marker at known free = record {
-  each = λ m. carried_more (is_among m (take k order)) (m == x) (the_values site after m) (the_values site before m) (slice_index_or marker m false)
+pub carried_still : (site : Site) (before after : Facts) (order : List ℕ) (k x : ℕ) (v : ℕ → Bool) → slice_get order k ≡ Some x →
+    AreCarried site before after order k v → (DependsOnChanged site before after x → ⊥) → AreCarried site before after order (k + 1) v
+carried_still site before after order k x v at known free = record {
+  each = λ m. carried_more (is_among m (take k order)) (m == x) (the_values site after m) (the_values site before m) (v m)
       (known.each m)
       (λ here. stays m (number_is m x here)) ∙
       ap (λ b. if b then the_values site after m else the_values site before m) (sym (front_next order k x m at));
 }
   where
-    stays : (m : ℕ) → m ≡ x → slice_index_or marker m false ≡ the_values site after m
+    stays : (m : ℕ) → m ≡ x → v m ≡ the_values site after m
     stays m same = known.each m ∙
         either (is_among m (take k order)) (the_values site after m) (the_values site before m)
         (value_kept site before after m (λ d. free (subst (DependsOnChanged site before after) same d)))
@@ -274,30 +274,27 @@ still : (a b : Bool) → b ≡ false → a ≡ (a || b)
 still true b e = refl
 still false b e = sym e
 
-carried_at : (site : Site) (before after : Facts) (order : List ℕ) (k x : ℕ) (marker : List Bool) (value : Bool) → slice_get order k ≡ Some x
-    → x < length marker →
-    AreCarried site before after order k marker → value ≡ the_values site after x →
-    (m : ℕ)
-    → slice_index_or (slice_set marker x value) m false
-    ≡ (if is_among m (take (k + 1) order) then the_values site after m else the_values site before m)
-carried_at site before after order k x marker value at fits known right m = elim (eqb_tells m x) [
+carried_at : (site : Site) (before after : Facts) (order : List ℕ) (k x : ℕ) (v more : ℕ → Bool) (value : Bool) → slice_get order k ≡ Some x
+    → Puts x value v more →
+    AreCarried site before after order k v → value ≡ the_values site after x →
+    (m : ℕ) → more m ≡ (if is_among m (take (k + 1) order) then the_values site after m else the_values site before m)
+carried_at site before after order k x v more value at puts known right m = elim (eqb_tells m x) [
   | inl here ↦ (
       let among : is_among m (take (k + 1) order) ≡ true =
       subst (λ n. is_among n (take (k + 1) order) ≡ true) (sym here.1) (front_has order k x at) in
-      ap (λ n. slice_index_or (slice_set marker x value) n false) here.1 ∙
-      (get_or-set_same marker x value false fits ∙ (right ∙ (ap (the_values site after) (sym here.1) ∙
+      ap more here.1 ∙
+      (puts.this ∙ (right ∙ (ap (the_values site after) (sym here.1) ∙
       sym (front_value (is_among m (take (k + 1) order)) (the_values site after m) (the_values site before m) among)))))
-  | inr apart ↦ (get_or-set_other marker x m value false apart.1 ∙ (known.each m ∙
+  | inr apart ↦ (puts.others m apart.1 ∙ (known.each m ∙
       ap (λ b. if b then the_values site after m else the_values site before m)
       (still (is_among m (take k order)) (m == x) apart.0 ∙ sym (front_next order k x m at))))
 ]
 
-pub carried_on : (site : Site) (before after : Facts) (order : List ℕ) (k x : ℕ) (marker : List Bool) (value : Bool) → IsOrder site order
-    → slice_get order k ≡ Some x → x < length marker →
-    AreCarried site before after order k marker → value ≡ equation site after (λ m. slice_index_or marker m false) x
-    → AreCarried site before after order (k + 1) (slice_set marker x value)
-carried_on site before after order k x marker value is at fits known made = record {
-  each = carried_at site before after order k x marker value at fits known (made ∙ next_changed site before after order k x marker is at known);
+pub carried_on : (site : Site) (before after : Facts) (order : List ℕ) (k x : ℕ) (v more : ℕ → Bool) (value : Bool) → IsOrder site order
+    → slice_get order k ≡ Some x → Puts x value v more →
+    AreCarried site before after order k v → value ≡ equation site after v x → AreCarried site before after order (k + 1) more
+carried_on site before after order k x v more value is at puts known made = record {
+  each = carried_at site before after order k x v more value at puts known (made ∙ next_changed site before after order k x v is at known);
 }
 
 or_both : {a b : Bool} → a ≡ false → b ≡ false → (a || b) ≡ false
@@ -319,11 +316,11 @@ whole_value site before after order is m = elim (cases_lt m (length site.markers
       (no_value site after (order_is_free site order is) m past) (no_value site before (order_is_free site order is) m past)
 ]
 
-pub carried_all : (site : Site) (before after : Facts) (order : List ℕ) (k : ℕ) (marker : List Bool) → IsOrder site order → length order ≤ k
-    → AreCarried site before after order k marker →
-    IsSolution site after (λ m. slice_index_or marker m false)
-carried_all site before after order k marker is done known =
-    is_solution site after (λ m. slice_index_or marker m false) (order_is_free site order is)
+pub carried_all : (site : Site) (before after : Facts) (order : List ℕ) (k : ℕ) (v : ℕ → Bool) → IsOrder site order → length order ≤ k
+    → AreCarried site before after order k v →
+    IsSolution site after v
+carried_all site before after order k v is done known =
+    is_solution site after v (order_is_free site order is)
     (λ m. known.each m ∙ (ap (λ xs. if is_among m xs then the_values site after m else the_values site before m) (take_all k order done) ∙ whole_value site before after order is m))
 
 -- ---- where no fact changed

@@ -12,20 +12,21 @@ use Rattle.site_types.specs.declared.term.Term.{Term}
 use Rattle.site_types.specs.declared.term.Term.TheVariants.{Zone as ZoneTerm, Manual as ManualTerm, Fault as FaultTerm, Marker as MarkerTerm}
 use Rattle.site_types.proofs.ValidSites.{zone_numbers, term_of_marker}
 use Rattle.marker_table.specs.declared.facts.Facts.{Facts}
+use Rattle.marker_table.specs.declared.values.Values.{Values}
 use Rattle.marker_table.specs.Equations.{zone_bit}
 use Rattle.marker_table.specs.Table.{zone_index, input_of}
 use Rattle.marker_table.proofs.Rows.{item_at}
 use Rattle.cause_effect.specs.Changes.{differ, is_changed, has_changed}
-use Rattle.cause_effect.specs.Cycles.{is_among, terms_of}
-use Rattle.cause_effect.specs.Users.{place_of, looks_at, users_at, AreUsersOf, uses_bit, uses_word}
+use Rattle.cause_effect.specs.Cycles.{terms_of}
+use Rattle.cause_effect.specs.Users.{place_of, looks_at, is_user, AreUsersOf, uses_bit, uses_word}
 use Rattle.cause_effect.proofs.Truths.{and_first, and_second, any_at, equal_number, number_is, one_passes, or_left, or_right, same_bool}
 use Rattle.cause_effect.proofs.Using.{or_more}
 
 -- a zone of a panel, or its call points, differ and have the marker among their users
-abbrev pub uses_panel : List (List ℕ) → Facts → Facts → ℕ → ℕ → Bool
-uses_panel lists before after m panel =
-    uses_word lists (32 * panel) (slice_index_or before.zones panel 0) (slice_index_or after.zones panel 0) m ||
-    uses_word lists (256 + 32 * panel) (slice_index_or before.manual panel 0) (slice_index_or after.manual panel 0) m
+abbrev pub uses_panel : List Values → Facts → Facts → ℕ → ℕ → Bool
+uses_panel sets before after m panel =
+    uses_word sets (32 * panel) (slice_index_or before.zones panel 0) (slice_index_or after.zones panel 0) m ||
+    uses_word sets (256 + 32 * panel) (slice_index_or before.manual panel 0) (slice_index_or after.manual panel 0) m
 
 -- ---- a test below a number
 
@@ -69,11 +70,11 @@ none_differs : (bit among : Bool) → (differ bit bit && among) ≡ false
 none_differs true among = refl
 none_differs false among = refl
 
-pub same_word : (lists : List (List ℕ)) (first before after m : ℕ) → before ≡ after → uses_word lists first before after m ≡ false
-same_word lists first before after m e =
-    subst (λ word. uses_word lists first before word m ≡ false) e
-    (none_below 32 (uses_bit lists first before before m)
-    (λ bit. none_differs (has_bit before bit) (is_among m (users_at lists (first + bit)))))
+pub same_word : (sets : List Values) (first before after m : ℕ) → before ≡ after → uses_word sets first before after m ≡ false
+same_word sets first before after m e =
+    subst (λ word. uses_word sets first before word m ≡ false) e
+    (none_below 32 (uses_bit sets first before before m)
+    (λ bit. none_differs (has_bit before bit) (is_user sets (first + bit) m)))
 
 pub below_next : (n : ℕ) (test : ℕ → Bool) → any_below (n + 1) test ≡ (any_below n test || test n)
 unfolding any_below
@@ -156,11 +157,11 @@ fault_changed site valid before after bit (MarkerTerm other) is e h = let few = 
 
 -- a marker that is a user at a place has a term that looks at it; what holds of each such term holds of one
 -- of its terms
-user_term : (site : Site) → IsValid site → (lists : List (List ℕ)) (place m : ℕ) (test : Term → Bool) → AreUsersOf site lists
-    → is_among m (users_at lists place) ≡ true →
+user_term : (site : Site) → IsValid site → (sets : List Values) (place m : ℕ) (test : Term → Bool) → AreUsersOf site sets
+    → is_user sets place m ≡ true →
     ((term : Term) → IsTerm site term → place ≡ place_of (input_of site term) → test term ≡ true)
     → list_any test (terms_of (slice_get site.markers m)) ≡ true
-user_term site valid lists place m test users among every = of_marker (slice_get site.markers m) refl (sym (users place m) ∙ among)
+user_term site valid sets place m test users among every = of_marker (slice_get site.markers m) refl (sym (users place m) ∙ among)
   where
     of_marker : (marker : Option Marker) → slice_get site.markers m ≡ marker → list_any (looks_at site place) (terms_of marker) ≡ true
         → list_any test (terms_of marker) ≡ true
@@ -173,23 +174,23 @@ user_term site valid lists place m test users among every = of_marker (slice_get
 -- ---- from the terms to the marks
 
 -- all marks that are set at first
-abbrev pub uses_facts : List (List ℕ) → Facts → Facts → ℕ → Bool
-uses_facts lists before after m = any_below 8 (uses_panel lists before after m) || uses_word lists 768 before.faults after.faults m
+abbrev pub uses_facts : List Values → Facts → Facts → ℕ → Bool
+uses_facts sets before after m = any_below 8 (uses_panel sets before after m) || uses_word sets 768 before.faults after.faults m
 
-user_bit : (site : Site) (lists : List (List ℕ)) (first before after m bit i : ℕ) (term : Term) → AreUsersOf site lists → bit < 32
+user_bit : (site : Site) (sets : List Values) (first before after m bit i : ℕ) (term : Term) → AreUsersOf site sets → bit < 32
     → slice_get (terms_of (slice_get site.markers m)) i ≡ Some term →
-    first + bit ≡ place_of (input_of site term) → differ (has_bit before bit) (has_bit after bit) ≡ true → uses_word lists first before after m ≡ true
-user_bit site lists first before after m bit i term users less at place h =
-    below_some 32 (uses_bit lists first before after m) bit less
-    (both (differ (has_bit before bit) (has_bit after bit)) (is_among m (users_at lists (first + bit))) h
+    first + bit ≡ place_of (input_of site term) → differ (has_bit before bit) (has_bit after bit) ≡ true → uses_word sets first before after m ≡ true
+user_bit site sets first before after m bit i term users less at place h =
+    below_some 32 (uses_bit sets first before after m) bit less
+    (both (differ (has_bit before bit) (has_bit after bit)) (is_user sets (first + bit) m) h
     (users (first + bit) m ∙ any_at (looks_at site (first + bit)) (terms_of (slice_get site.markers m)) i term at
     (subst (λ n. ((first + bit) == n) ≡ true) place (equal_number (first + bit)))))
 
-panel_marks : (lists : List (List ℕ)) (before after : Facts) (m panel : ℕ) → panel < 8 → uses_panel lists before after m panel ≡ true
-    → uses_facts lists before after m ≡ true
-panel_marks lists before after m panel less h =
-    or_left (any_below 8 (uses_panel lists before after m)) (uses_word lists 768 before.faults after.faults m)
-    (below_some 8 (uses_panel lists before after m) panel less h)
+panel_marks : (sets : List Values) (before after : Facts) (m panel : ℕ) → panel < 8 → uses_panel sets before after m panel ≡ true
+    → uses_facts sets before after m ≡ true
+panel_marks sets before after m panel less h =
+    or_left (any_below 8 (uses_panel sets before after m)) (uses_word sets 768 before.faults after.faults m)
+    (below_some 8 (uses_panel sets before after m) panel less h)
 
 -- the masks differ in the bit of a zone
 zone_differs : (before after : List ℕ) (found : Option Zone) (z : Zone) → found ≡ Some z
@@ -197,101 +198,101 @@ zone_differs : (before after : List ℕ) (found : Option Zone) (z : Zone) → fo
     differ (has_bit (slice_index_or before (z.panel - 1) 0) (z.number - 1)) (has_bit (slice_index_or after (z.panel - 1) 0) (z.number - 1)) ≡ true
 zone_differs before after found z at h = subst (λ (o : Option Zone). differ (zone_bit before o) (zone_bit after o) ≡ true) at h
 
-changed_marks : (site : Site) → IsValid site → (lists : List (List ℕ)) (before after : Facts) (m i : ℕ) (term : Term) → AreUsersOf site lists
+changed_marks : (site : Site) → IsValid site → (sets : List Values) (before after : Facts) (m i : ℕ) (term : Term) → AreUsersOf site sets
     → IsTerm site term →
-    slice_get (terms_of (slice_get site.markers m)) i ≡ Some term → is_changed site before after term ≡ true → uses_facts lists before after m ≡ true
-changed_marks site valid lists before after m i (ZoneTerm place) users is at h =
+    slice_get (terms_of (slice_get site.markers m)) i ≡ Some term → is_changed site before after term ≡ true → uses_facts sets before after m ≡ true
+changed_marks site valid sets before after m i (ZoneTerm place) users is at h =
     let zone = item_at site.zones place is in
     let n = zone_numbers site valid place zone.0 zone.1 in
     let p = zone.0.panel - 1 in
-    panel_marks lists before after m p (omega (arith, n))
-    (or_left (uses_word lists (32 * p) (slice_index_or before.zones p 0) (slice_index_or after.zones p 0) m) _
-    (user_bit site lists (32 * p) (slice_index_or before.zones p 0) (slice_index_or after.zones p 0) m (zone.0.number - 1) i (ZoneTerm place) users
+    panel_marks sets before after m p (omega (arith, n))
+    (or_left (uses_word sets (32 * p) (slice_index_or before.zones p 0) (slice_index_or after.zones p 0) m) _
+    (user_bit site sets (32 * p) (slice_index_or before.zones p 0) (slice_index_or after.zones p 0) m (zone.0.number - 1) i (ZoneTerm place) users
     (omega (arith, n)) at
     (sym (ap zone_index zone.1)) (zone_differs before.zones after.zones (slice_get site.zones place) zone.0 zone.1 h)))
-changed_marks site valid lists before after m i (ManualTerm place) users is at h =
+changed_marks site valid sets before after m i (ManualTerm place) users is at h =
     let zone = item_at site.zones place is in
     let n = zone_numbers site valid place zone.0 zone.1 in
     let p = zone.0.panel - 1 in
-    panel_marks lists before after m p (omega (arith, n))
-    (or_right _ (uses_word lists (256 + 32 * p) (slice_index_or before.manual p 0) (slice_index_or after.manual p 0) m)
-    (user_bit site lists (256 + 32 * p) (slice_index_or before.manual p 0) (slice_index_or after.manual p 0) m (zone.0.number - 1) i
+    panel_marks sets before after m p (omega (arith, n))
+    (or_right _ (uses_word sets (256 + 32 * p) (slice_index_or before.manual p 0) (slice_index_or after.manual p 0) m)
+    (user_bit site sets (256 + 32 * p) (slice_index_or before.manual p 0) (slice_index_or after.manual p 0) m (zone.0.number - 1) i
     (ManualTerm place) users (omega (arith, n)) at
     (moved p (zone.0.number - 1) ∙ sym (ap (λ (o : Option Zone). 256 + zone_index o) zone.1))
     (zone_differs before.manual after.manual (slice_get site.zones place) zone.0 zone.1 h)))
   where
     moved : (p n : ℕ) → (256 + 32 * p) + n ≡ 256 + (32 * p + n)
     moved p n = omega arith
-changed_marks site valid lists before after m i (FaultTerm panel) users is at h =
+changed_marks site valid sets before after m i (FaultTerm panel) users is at h =
     let most = valid.forms.panels.1 in
-    or_right (any_below 8 (uses_panel lists before after m)) (uses_word lists 768 before.faults after.faults m)
-    (user_bit site lists 768 before.faults after.faults m (panel - 1) i (FaultTerm panel) users (omega (arith, is, most)) at refl h)
-changed_marks site valid lists before after m i (MarkerTerm other) users is at h = cc
+    or_right (any_below 8 (uses_panel sets before after m)) (uses_word sets 768 before.faults after.faults m)
+    (user_bit site sets 768 before.faults after.faults m (panel - 1) i (FaultTerm panel) users (omega (arith, is, most)) at refl h)
+changed_marks site valid sets before after m i (MarkerTerm other) users is at h = cc
 
 -- ---- both ways
 
-bit_of_word : (site : Site) → IsValid site → (lists : List (List ℕ)) (first before after m : ℕ) (test : Term → Bool) → AreUsersOf site lists →
+bit_of_word : (site : Site) → IsValid site → (sets : List Values) (first before after m : ℕ) (test : Term → Bool) → AreUsersOf site sets →
     ((bit : ℕ) (term : Term) → bit < 32 → IsTerm site term → first + bit ≡ place_of (input_of site term)
     → differ (has_bit before bit) (has_bit after bit) ≡ true → test term ≡ true) →
-    uses_word lists first before after m ≡ true → list_any test (terms_of (slice_get site.markers m)) ≡ true
-bit_of_word site valid lists first before after m test users every h =
-    let w = some_below 32 (uses_bit lists first before after m) h in
-    let differs = and_first (differ (has_bit before w.number) (has_bit after w.number)) (is_among m (users_at lists (first + w.number))) w.passes in
-    user_term site valid lists (first + w.number) m test users
-    (and_second (differ (has_bit before w.number) (has_bit after w.number)) (is_among m (users_at lists (first + w.number))) w.passes)
+    uses_word sets first before after m ≡ true → list_any test (terms_of (slice_get site.markers m)) ≡ true
+bit_of_word site valid sets first before after m test users every h =
+    let w = some_below 32 (uses_bit sets first before after m) h in
+    let differs = and_first (differ (has_bit before w.number) (has_bit after w.number)) (is_user sets (first + w.number) m) w.passes in
+    user_term site valid sets (first + w.number) m test users
+    (and_second (differ (has_bit before w.number) (has_bit after w.number)) (is_user sets (first + w.number) m) w.passes)
     (λ term is place. every w.number term w.below is place differs)
 
-panel_changed : (site : Site) → IsValid site → (lists : List (List ℕ)) (before after : Facts) (m panel : ℕ) → AreUsersOf site lists → panel < 8
-    → uses_panel lists before after m panel ≡ true →
+panel_changed : (site : Site) → IsValid site → (sets : List Values) (before after : Facts) (m panel : ℕ) → AreUsersOf site sets → panel < 8
+    → uses_panel sets before after m panel ≡ true →
     has_changed site before after m ≡ true
-panel_changed site valid lists before after m panel users less h = elim (or_cases
-    (uses_word lists (32 * panel) (slice_index_or before.zones panel 0) (slice_index_or after.zones panel 0) m)
-    (uses_word lists (256 + 32 * panel) (slice_index_or before.manual panel 0) (slice_index_or after.manual panel 0) m) h) [
-      | inl zones ↦ bit_of_word site valid lists (32 * panel) (slice_index_or before.zones panel 0) (slice_index_or after.zones panel 0) m
+panel_changed site valid sets before after m panel users less h = elim (or_cases
+    (uses_word sets (32 * panel) (slice_index_or before.zones panel 0) (slice_index_or after.zones panel 0) m)
+    (uses_word sets (256 + 32 * panel) (slice_index_or before.manual panel 0) (slice_index_or after.manual panel 0) m) h) [
+      | inl zones ↦ bit_of_word site valid sets (32 * panel) (slice_index_or before.zones panel 0) (slice_index_or after.zones panel 0) m
           (is_changed site before after) users
           (λ bit term small is place. zone_changed site valid before after panel bit term is less small place) zones
-      | inr manual ↦ bit_of_word site valid lists (256 + 32 * panel) (slice_index_or before.manual panel 0) (slice_index_or after.manual panel 0) m
+      | inr manual ↦ bit_of_word site valid sets (256 + 32 * panel) (slice_index_or before.manual panel 0) (slice_index_or after.manual panel 0) m
           (is_changed site before after) users
           (λ bit term small is place. manual_changed site valid before after panel bit term is less small place) manual
     ]
 
-facts_changed : (site : Site) → IsValid site → (lists : List (List ℕ)) (before after : Facts) (m : ℕ) → AreUsersOf site lists
-    → uses_facts lists before after m ≡ true →
+facts_changed : (site : Site) → IsValid site → (sets : List Values) (before after : Facts) (m : ℕ) → AreUsersOf site sets
+    → uses_facts sets before after m ≡ true →
     has_changed site before after m ≡ true
-facts_changed site valid lists before after m users h =
-    elim (or_cases (any_below 8 (uses_panel lists before after m)) (uses_word lists 768 before.faults after.faults m) h) [
-      | inl panels ↦ (let w = some_below 8 (uses_panel lists before after m) panels in
-          panel_changed site valid lists before after m w.number users w.below w.passes)
-      | inr faults ↦ bit_of_word site valid lists 768 before.faults after.faults m (is_changed site before after) users
+facts_changed site valid sets before after m users h =
+    elim (or_cases (any_below 8 (uses_panel sets before after m)) (uses_word sets 768 before.faults after.faults m) h) [
+      | inl panels ↦ (let w = some_below 8 (uses_panel sets before after m) panels in
+          panel_changed site valid sets before after m w.number users w.below w.passes)
+      | inr faults ↦ bit_of_word site valid sets 768 before.faults after.faults m (is_changed site before after) users
           (λ bit term small is place. fault_changed site valid before after bit term is place) faults
     ]
 
-changed_facts : (site : Site) → IsValid site → (lists : List (List ℕ)) (before after : Facts) (m : ℕ) → AreUsersOf site lists
+changed_facts : (site : Site) → IsValid site → (sets : List Values) (before after : Facts) (m : ℕ) → AreUsersOf site sets
     → (marker : Option Marker) → slice_get site.markers m ≡ marker →
-    list_any (is_changed site before after) (terms_of marker) ≡ true → uses_facts lists before after m ≡ true
-changed_facts site valid lists before after m users None at h = cc
-changed_facts site valid lists before after m users (Some marker) at h =
+    list_any (is_changed site before after) (terms_of marker) ≡ true → uses_facts sets before after m ≡ true
+changed_facts site valid sets before after m users None at h = cc
+changed_facts site valid sets before after m users (Some marker) at h =
     let w = one_passes (is_changed site before after) marker.terms h in
-    changed_marks site valid lists before after m w.place w.item users (term_of_marker site valid m marker w.place w.item at w.at)
+    changed_marks site valid sets before after m w.place w.item users (term_of_marker site valid m marker w.place w.item at w.at)
     (ap (λ (o : Option Marker). slice_get (terms_of o) w.place) at ∙ w.at) w.passes
 
 -- the marks that are set at first are those of the markers that have a fact as a term that changed
-pub facts_mark : (site : Site) → IsValid site → (lists : List (List ℕ)) (before after : Facts) (m : ℕ) → AreUsersOf site lists
-    → uses_facts lists before after m ≡ has_changed site before after m
-facts_mark site valid lists before after m users =
-    same_bool (uses_facts lists before after m) (has_changed site before after m)
-    (facts_changed site valid lists before after m users)
-    (changed_facts site valid lists before after m users (slice_get site.markers m) refl)
+pub facts_mark : (site : Site) → IsValid site → (sets : List Values) (before after : Facts) (m : ℕ) → AreUsersOf site sets
+    → uses_facts sets before after m ≡ has_changed site before after m
+facts_mark site valid sets before after m users =
+    same_bool (uses_facts sets before after m) (has_changed site before after m)
+    (facts_changed site valid sets before after m users)
+    (changed_facts site valid sets before after m users (slice_get site.markers m) refl)
 
 -- ---- one panel more
 
-pub panel_more : (lists : List (List ℕ)) (before after : Facts) (m panel : ℕ) (start zones manual : Bool)
-    → start ≡ any_below panel (uses_panel lists before after m) →
-    zones ≡ (start || uses_word lists (32 * panel) (slice_index_or before.zones panel 0) (slice_index_or after.zones panel 0) m) →
-    manual ≡ (zones || uses_word lists (256 + 32 * panel) (slice_index_or before.manual panel 0) (slice_index_or after.manual panel 0) m) →
-    manual ≡ any_below (panel + 1) (uses_panel lists before after m)
-panel_more lists before after m panel start zones manual first second third =
-    together start zones manual _ _ _ first second third ∙ sym (below_next panel (uses_panel lists before after m))
+pub panel_more : (sets : List Values) (before after : Facts) (m panel : ℕ) (start zones manual : Bool)
+    → start ≡ any_below panel (uses_panel sets before after m) →
+    zones ≡ (start || uses_word sets (32 * panel) (slice_index_or before.zones panel 0) (slice_index_or after.zones panel 0) m) →
+    manual ≡ (zones || uses_word sets (256 + 32 * panel) (slice_index_or before.manual panel 0) (slice_index_or after.manual panel 0) m) →
+    manual ≡ any_below (panel + 1) (uses_panel sets before after m)
+panel_more sets before after m panel start zones manual first second third =
+    together start zones manual _ _ _ first second third ∙ sym (below_next panel (uses_panel sets before after m))
   where
     together : (s z m a b c : Bool) → s ≡ a → z ≡ (s || b) → m ≡ (z || c) → m ≡ (a || (b || c))
     together true z m true b c e f g = g ∙ ap (λ x. x || c) f
@@ -300,10 +301,10 @@ panel_more lists before after m panel start zones manual first second third =
     together false z m true b c e f g = cc
 
 -- one bit more of a word
-pub bit_more : (lists : List (List ℕ)) (first before after m bit : ℕ) (old start more : Bool)
-    → start ≡ (old || any_below bit (uses_bit lists first before after m)) →
-    more ≡ (start || uses_bit lists first before after m bit) → more ≡ (old || any_below (bit + 1) (uses_bit lists first before after m))
-bit_more lists first before after m bit old start more e f =
-    f ∙ (ap (λ b. b || uses_bit lists first before after m bit) e ∙
-    (or_more old (any_below bit (uses_bit lists first before after m)) (uses_bit lists first before after m bit) ∙
-    ap (λ b. old || b) (sym (below_next bit (uses_bit lists first before after m)))))
+pub bit_more : (sets : List Values) (first before after m bit : ℕ) (old start more : Bool)
+    → start ≡ (old || any_below bit (uses_bit sets first before after m)) →
+    more ≡ (start || uses_bit sets first before after m bit) → more ≡ (old || any_below (bit + 1) (uses_bit sets first before after m))
+bit_more sets first before after m bit old start more e f =
+    f ∙ (ap (λ b. b || uses_bit sets first before after m bit) e ∙
+    (or_more old (any_below bit (uses_bit sets first before after m)) (uses_bit sets first before after m bit) ∙
+    ap (λ b. old || b) (sym (below_next bit (uses_bit sets first before after m)))))

@@ -1,8 +1,8 @@
 -- One marker more is solved.
-use Rattle.std.proofs.Common.{◌≡◌, ◌≢◌, ◌≤◌, ◌<◌, ◌==◌, ◌+◌, ◌&&◌, ◌||◌, inl, inr, ℕ, zero, suc, Bool, true, false, List, [], ◌∷◌, length, take, get_or, replicate, refl, sym, ap, subst, ◌∙◌, arith}
-use Rattle.std.specs.Prelude.{slice_index_or, slice_set}
+use Rattle.std.proofs.Common.{◌≡◌, ◌≢◌, ◌≤◌, ◌<◌, ◌==◌, ◌+◌, ◌&&◌, ◌||◌, inl, inr, ℕ, zero, suc, Bool, true, false, List, [], ◌∷◌, length, take, get_or, replicate, refl, sym, ap, subst, ◌∙◌}
+use Rattle.std.specs.Prelude.{slice_index_or}
 use Rattle.std.proofs.lemmas.Bool.Decides.{eqb_tells}
-use Rattle.std.proofs.lemmas.List.{get_or-set_same, get_or-set_other, take_all, take_more}
+use Rattle.std.proofs.lemmas.List.{take_all, take_more}
 use Rattle.std.proofs.lemmas.List.Folds.{list_any-append}
 use Rattle.std.proofs.lemmas.Bool.{cases_lt}
 use Rattle.std.proofs.lemmas.Option.{slice_get-get_or, slice_get_past}
@@ -44,8 +44,13 @@ among_before m k xs less apart = among_more m k xs less ∙ or_none (is_among m 
 -- ---- values
 
 -- the values of the first k markers of the order are those of the solution, the others are false
-abbrev pub AreSolved : Site → Facts → List ℕ → ℕ → List Bool → Type 0
-AreSolved site facts order k marker = (m : ℕ) → slice_index_or marker m false ≡ (is_among m (take k order) && the_values site facts m)
+abbrev pub AreSolved : Site → Facts → List ℕ → ℕ → (ℕ → Bool) → Type 0
+AreSolved site facts order k v = (m : ℕ) → v m ≡ (is_among m (take k order) && the_values site facts m)
+
+-- one marker has a value in some values, and the others have those that they have in others
+pub record Puts (x : ℕ) (value : Bool) (v more : ℕ → Bool) : Type 0 where
+  pub this : more x ≡ value
+  pub others : (m : ℕ) → m ≢ x → more m ≡ v m
 
 and_is : (a b : Bool) → a ≡ true → (a && b) ≡ b
 and_is true b e = refl
@@ -60,50 +65,45 @@ next_value site facts order k v is less known =
     (λ other term. known other (is.rising k (get_or order k 0) other (slice_get-get_or order k 0 less) term)) ∙
     sym (the_values_solve site facts (order_is_free site order is) (get_or order k 0))
 
-solved_here : (site : Site) (facts : Facts) (order : List ℕ) (marker : List Bool) (k : ℕ) (value : Bool) (m : ℕ) → k < length order
-    → get_or order k 0 < length marker →
+solved_here : (site : Site) (facts : Facts) (order : List ℕ) (v more : ℕ → Bool) (k : ℕ) (value : Bool) (m : ℕ) → k < length order
+    → Puts (get_or order k 0) value v more →
     value ≡ the_values site facts (get_or order k 0) → m ≡ get_or order k 0 → (m == get_or order k 0) ≡ true →
-    slice_index_or (slice_set marker (get_or order k 0) value) m false ≡ (is_among m (take (k + 1) order) && the_values site facts m)
-solved_here site facts order marker k value m less fits right same test =
-    ap (λ n. slice_index_or (slice_set marker (get_or order k 0) value) n false) same ∙
-    (get_or-set_same marker (get_or order k 0) value false fits ∙
+    more m ≡ (is_among m (take (k + 1) order) && the_values site facts m)
+solved_here site facts order v more k value m less puts right same test =
+    ap more same ∙
+    (puts.this ∙
     (right ∙
     (sym (ap (the_values site facts) same) ∙ sym
     (and_is (is_among m (take (k + 1) order)) (the_values site facts m) (among_last m k order less test)))))
 
-solved_there : (site : Site) (facts : Facts) (order : List ℕ) (marker : List Bool) (k : ℕ) (value : Bool) (m : ℕ) → k < length order →
-    slice_index_or marker m false ≡ (is_among m (take k order) && the_values site facts m) → m ≢ get_or order k 0 → (m == get_or order k 0) ≡ false →
-    slice_index_or (slice_set marker (get_or order k 0) value) m false ≡ (is_among m (take (k + 1) order) && the_values site facts m)
-solved_there site facts order marker k value m less known apart test =
-    get_or-set_other marker (get_or order k 0) m value false apart ∙
-    (known ∙ ap (λ b. b && the_values site facts m) (sym (among_before m k order less test)))
+solved_there : (site : Site) (facts : Facts) (order : List ℕ) (v more : ℕ → Bool) (k : ℕ) (value : Bool) (m : ℕ) → k < length order
+    → Puts (get_or order k 0) value v more →
+    v m ≡ (is_among m (take k order) && the_values site facts m) → m ≢ get_or order k 0 → (m == get_or order k 0) ≡ false →
+    more m ≡ (is_among m (take (k + 1) order) && the_values site facts m)
+solved_there site facts order v more k value m less puts known apart test =
+    puts.others m apart ∙ (known ∙ ap (λ b. b && the_values site facts m) (sym (among_before m k order less test)))
 
-pub solved_next : (site : Site) (facts : Facts) (order : List ℕ) (marker : List Bool) (k : ℕ) (value : Bool) → IsOrder site order → k < length order →
-    get_or order k 0 < length marker → AreSolved site facts order k marker
-    → value ≡ equation site facts (λ m. slice_index_or marker m false) (get_or order k 0) →
-    AreSolved site facts order (k + 1) (slice_set marker (get_or order k 0) value)
-solved_next site facts order marker k value is less fits known made m =
+pub solved_next : (site : Site) (facts : Facts) (order : List ℕ) (v more : ℕ → Bool) (k : ℕ) (value : Bool) → IsOrder site order → k < length order →
+    Puts (get_or order k 0) value v more → AreSolved site facts order k v → value ≡ equation site facts v (get_or order k 0) →
+    AreSolved site facts order (k + 1) more
+solved_next site facts order v more k value is less puts known made m =
     let x = get_or order k 0 in
     let right : value ≡ the_values site facts x =
-    made ∙ next_value site facts order k (λ m. slice_index_or marker m false) is less
+    made ∙ next_value site facts order k v is less
     (λ other among. known other ∙ and_is (is_among other (take k order)) (the_values site facts other) among) in
     elim (eqb_tells m x) [
-      | inl same ↦ solved_here site facts order marker k value m less fits right same.1 same.0
-      | inr apart ↦ solved_there site facts order marker k value m less (known m) apart.1 apart.0
+      | inl same ↦ solved_here site facts order v more k value m less puts right same.1 same.0
+      | inr apart ↦ solved_there site facts order v more k value m less puts (known m) apart.1 apart.0
     ]
 
 -- the same, where the list that is gone over is the order
-pub solved_on : (site : Site) (facts : Facts) (order xs : List ℕ) (marker : List Bool) (k : ℕ) (value : Bool) → xs ≡ order → IsOrder site order
-    → k < length xs →
-    get_or xs k 0 < 256 → length marker ≡ 256 → AreSolved site facts order k marker
-    → value ≡ equation site facts (λ m. slice_index_or marker m false) (get_or xs k 0) →
-    AreSolved site facts order (k + 1) (slice_set marker (get_or xs k 0) value)
-solved_on site facts order xs marker k value e is less fits size known made m =
+pub solved_on : (site : Site) (facts : Facts) (order xs : List ℕ) (v more : ℕ → Bool) (k : ℕ) (value : Bool) → xs ≡ order → IsOrder site order
+    → k < length xs → Puts (get_or xs k 0) value v more → AreSolved site facts order k v → value ≡ equation site facts v (get_or xs k 0) →
+    AreSolved site facts order (k + 1) more
+solved_on site facts order xs v more k value e is less puts known made =
     let same : get_or xs k 0 ≡ get_or order k 0 = ap (λ ys. get_or ys k 0) e in
-    let within : get_or order k 0 < length marker = omega (arith, same, fits, size) in
-    ap (λ x. slice_index_or (slice_set marker x value) m false) same ∙
-    solved_next site facts order marker k value is (subst (λ ys. k < length ys) e less) within known
-    (made ∙ ap (equation site facts (λ n. slice_index_or marker n false)) same) m
+    solved_next site facts order v more k value is (subst (λ ys. k < length ys) e less) (subst (λ x. Puts x value v more) same puts) known
+    (made ∙ ap (equation site facts v) same)
 
 -- a place without a marker is false
 pub no_marker : (site : Site) (facts : Facts) (v : ℕ → Bool) (m : ℕ) → length site.markers ≤ m → equation site facts v m ≡ false
@@ -127,9 +127,9 @@ pub is_solution : (site : Site) (facts : Facts) (v : ℕ → Bool) → HasNoCycl
 is_solution site facts v free same m =
     same m ∙ (the_values_solve site facts free m ∙ equation_same site facts (the_values site facts) v m (λ other term. sym (same other)))
 
-pub all_solved : (site : Site) (facts : Facts) (order : List ℕ) (k : ℕ) (marker : List Bool) → IsOrder site order → length order ≤ k
-    → AreSolved site facts order k marker →
-    IsSolution site facts (λ m. slice_index_or marker m false)
-all_solved site facts order k marker is done known =
-    is_solution site facts (λ m. slice_index_or marker m false) (order_is_free site order is)
+pub all_solved : (site : Site) (facts : Facts) (order : List ℕ) (k : ℕ) (v : ℕ → Bool) → IsOrder site order → length order ≤ k
+    → AreSolved site facts order k v →
+    IsSolution site facts v
+all_solved site facts order k v is done known =
+    is_solution site facts v (order_is_free site order is)
     (λ m. known m ∙ (ap (λ xs. is_among m xs && the_values site facts m) (take_all k order done) ∙ among_all site facts order is m))

@@ -1,13 +1,13 @@
 -- Who has a fact or a marker as a term, term by term and marker by marker.
 use Rattle.std.proofs.Common.{◌≡◌, ◌≢◌, ◌≤◌, ◌<◌, ◌==◌, ◌+◌, ◌*◌, ◌-◌, ◌&&◌, ◌||◌, inl, inr, ℕ, zero, suc, Bool, true}
-use Rattle.std.proofs.Common.{false, List, [], ◌∷◌, ◌++◌, Option, Some, None, length, take, drop, get_or, replicate}
+use Rattle.std.proofs.Common.{false, List, [], ◌∷◌, ◌++◌, Option, Some, None, length, take, drop, get_or}
 use Rattle.std.proofs.Common.{not, refl, sym, ap, ◌∙◌, arith}
 use mathlib.Core.Bool.{beq}
-use Rattle.std.specs.Prelude.{slice_get, slice_index_or, slice_set, nat_lt}
+use Rattle.std.specs.Prelude.{slice_get, slice_set, nat_lt}
 use Rattle.std.specs.List.{list_any}
 use Rattle.std.proofs.lemmas.Bool.{cases_lt}
 use Rattle.std.proofs.lemmas.Bool.Decides.{eqb_tells, nat_tests}
-use Rattle.std.proofs.lemmas.List.{get_or-set_same, get_or-set_other, take-append-le, take_all, take_more}
+use Rattle.std.proofs.lemmas.List.{take-append-le, take_all, take_more}
 use Rattle.std.proofs.lemmas.List.Folds.{list_any-append}
 use Rattle.std.proofs.lemmas.Option.{get_or_from_slice_get, slice_get_past, slice_get_within}
 use Rattle.site_types.specs.Valid.{IsValid, IsTerm}
@@ -17,69 +17,63 @@ use Rattle.site_types.specs.declared.zone.Zone.{Zone}
 use Rattle.site_types.specs.declared.term.Term.{Term}
 use Rattle.site_types.specs.declared.term.Term.TheVariants.{Zone as ZoneTerm, Manual as ManualTerm, Fault as FaultTerm, Marker as MarkerTerm}
 use Rattle.site_types.proofs.ValidSites.{zone_numbers, term_of_marker}
+use Rattle.marker_table.specs.declared.values.Values.{Values}
+use Rattle.marker_table.specs.Equations.{values_of}
 use Rattle.marker_table.specs.Table.{zone_index, input_of}
 use Rattle.marker_table.proofs.Rows.{item_at}
 use Rattle.cause_effect.specs.Changes.{differ}
-use Rattle.cause_effect.specs.Cycles.{is_among, is_marker, has_term, terms_of}
-use Rattle.cause_effect.specs.Users.{place_of, looks_at, uses, users_at, AreUsersOf, is_marked}
+use Rattle.cause_effect.specs.Cycles.{is_marker, has_term, terms_of}
+use Rattle.cause_effect.specs.Users.{place_of, looks_at, uses, is_user, has_marker, AreUsersOf, HasNoUsers}
 use Rattle.cause_effect.proofs.Changing.{or_false}
-use Rattle.cause_effect.proofs.Solving.{among_more}
+use Rattle.cause_effect.proofs.Truths.{or_right}
 
--- ---- marking the markers of a list
+-- ---- truth values
 
 pub or_more : (a b c : Bool) → ((a || b) || c) ≡ (a || (b || c))
 or_more true b c = refl
 or_more false b c = refl
 
-or_done : (a b : Bool) → b ≡ true → true ≡ (a || b)
-or_done true b e = refl
-or_done false b e = sym e
-
 pub or_none : (a b : Bool) → b ≡ false → a ≡ (a || b)
 or_none true b e = refl
 or_none false b e = sym e
 
--- one more marker of a list is marked
-pub marked_more : (first marks : List Bool) (xs : List ℕ) (k : ℕ) → k < length xs → get_or xs k 0 < length marks →
-    ((m : ℕ) → m < 256 → is_marked marks m ≡ (is_marked first m || is_among m (take k xs))) →
-    (m : ℕ) → m < 256 → is_marked (slice_set marks (get_or xs k 0) true) m ≡ (is_marked first m || is_among m (take (k + 1) xs))
-marked_more first marks xs k less fits known m small =
-    let x = get_or xs k 0 in
-    let next : is_among m (take (k + 1) xs) ≡ (is_among m (take k xs) || (m == x)) =
-    among_more m k xs less ∙ or_false (is_among m (take k xs)) (m == x) in
-    elim (eqb_tells m x) [
-      | inl here ↦ (ap (λ n. slice_index_or (slice_set marks x true) n false) here.1 ∙ (get_or-set_same marks x true false fits ∙
-          (or_done (is_marked first m || is_among m (take k xs)) (m == x) here.0 ∙
-          (or_more (is_marked first m) (is_among m (take k xs)) (m == x) ∙ ap (λ b. is_marked first m || b) (sym next)))))
-      | inr apart ↦ (get_or-set_other marks x m true false apart.1 ∙ (known m small ∙
-          (or_none (is_marked first m || is_among m (take k xs)) (m == x) apart.0 ∙
-          (or_more (is_marked first m) (is_among m (take k xs)) (m == x) ∙ ap (λ b. is_marked first m || b) (sym next)))))
-    ]
-
--- a place without a list has no users
-pub no_list : (lists : List (List ℕ)) (place m : ℕ) → slice_get lists place ≡ None → is_among m (users_at lists place) ≡ false
-no_list [] place m at = refl
-no_list (list ∷ lists) zero m at = cc
-no_list (list ∷ lists) (suc place) m at = no_list lists place m at
-
 -- ---- adding the terms of a marker
 
+got_same : (sets : List Values) (k : ℕ) (set : Values) → k < length sets → slice_get (slice_set sets k set) k ≡ Some set
+got_same [] k set less = absurd (omega (arith, less))
+got_same (first ∷ sets) zero set less = refl
+got_same (first ∷ sets) (suc k) set less = got_same sets k set (omega (arith, less))
+
+got_other : (sets : List Values) (k j : ℕ) (set : Values) → j ≢ k → slice_get (slice_set sets k set) j ≡ slice_get sets j
+got_other [] k j set apart = refl
+got_other (first ∷ sets) zero zero set apart = absurd (apart refl)
+got_other (first ∷ sets) zero (suc j) set apart = refl
+got_other (first ∷ sets) (suc k) zero set apart = refl
+got_other (first ∷ sets) (suc k) (suc j) set apart = got_other sets k j set (λ e. apart (ap suc e))
+
+-- a set with one marker more
+set_more : (old more : ℕ → Bool) (x : ℕ) → more x ≡ true → ((m : ℕ) → m ≢ x → more m ≡ old m) → (m : ℕ) → more m ≡ (old m || (m == x))
+set_more old more x this others m = elim (eqb_tells m x) [
+  | inl here ↦ ap more here.1 ∙ (this ∙ sym (or_right (old m) (m == x) here.0))
+  | inr apart ↦ others m apart.1 ∙ or_none (old m) (m == x) apart.0
+]
+
 -- a user more at one place
-pub user_pushed : (lists : List (List ℕ)) (place x : ℕ) (list : List ℕ) → place < length lists → list ≡ users_at lists place ++ x ∷ [] →
-    (p m : ℕ) → is_among m (users_at (slice_set lists place list) p) ≡ (is_among m (users_at lists p) || ((m == x) && (p == place)))
-user_pushed lists place x list fits is p m = elim (eqb_tells p place) [
+user_put : (sets : List Values) (place x : ℕ) (old set : Values) → place < length sets → slice_get sets place ≡ Some old →
+    ((m : ℕ) → values_of set m ≡ (values_of old m || (m == x))) →
+    (p m : ℕ) → is_user (slice_set sets place set) p m ≡ (is_user sets p m || ((m == x) && (p == place)))
+user_put sets place x old set fits at is p m = elim (eqb_tells p place) [
   | inl here ↦
-      (ap (λ n. is_among m (users_at (slice_set lists place list) n)) here.1 ∙ (ap (is_among m) (get_or-set_same lists place list [] fits ∙ is) ∙
-      (list_any-append (λ y. m == y) (users_at lists place) (x ∷ []) ∙ (pushed (is_among m (users_at lists place)) (m == x) (p == place) here.0 ∙
-      ap (λ n. is_among m (users_at lists n) || ((m == x) && (p == place))) (sym here.1)))))
-  | inr apart ↦
-      (ap (is_among m) (get_or-set_other lists place p list [] apart.1) ∙ kept (is_among m (users_at lists p)) (m == x) (p == place) apart.0)
+      (ap (λ n. is_user (slice_set sets place set) n m) here.1 ∙ (ap (λ o. has_marker o m) (got_same sets place set fits) ∙
+      (is m ∙ (put (values_of old m) (m == x) (p == place) here.0 ∙
+      ap (λ b. b || ((m == x) && (p == place))) (sym (ap (λ n. is_user sets n m) here.1 ∙ ap (λ o. has_marker o m) at))))))
+  | inr apart ↦ (ap (λ o. has_marker o m) (got_other sets place p set apart.1) ∙ kept (is_user sets p m) (m == x) (p == place) apart.0)
 ]
   where
-    pushed : (a b c : Bool) → c ≡ true → (a || (b || false)) ≡ (a || (b && c))
-    pushed true b c e = refl
-    pushed false true c e = sym e
-    pushed false false c e = refl
+    put : (a b c : Bool) → c ≡ true → (a || b) ≡ (a || (b && c))
+    put true b c e = refl
+    put false true c e = sym e
+    put false false c e = refl
 
     kept : (a b c : Bool) → c ≡ false → a ≡ (a || (b && c))
     kept true b c e = refl
@@ -87,18 +81,19 @@ user_pushed lists place x list fits is p m = elim (eqb_tells p place) [
     kept false false c e = refl
 
 -- the users with one more term of the marker
-pub term_added : (site : Site) (first lists : List (List ℕ)) (terms : List Term) (k x : ℕ) (term : Term) (list : List ℕ)
+pub term_added : (site : Site) (first sets : List Values) (terms : List Term) (k x : ℕ) (term : Term) (old set : Values)
     → slice_get terms k ≡ Some term →
-    place_of (input_of site term) < length lists → list ≡ users_at lists (place_of (input_of site term)) ++ x ∷ [] →
-    ((p m : ℕ) → is_among m (users_at lists p) ≡ (is_among m (users_at first p) || ((m == x) && list_any (looks_at site p) (take k terms)))) →
+    place_of (input_of site term) < length sets → slice_get sets (place_of (input_of site term)) ≡ Some old →
+    values_of set x ≡ true → ((m : ℕ) → m ≢ x → values_of set m ≡ values_of old m) →
+    ((p m : ℕ) → is_user sets p m ≡ (is_user first p m || ((m == x) && list_any (looks_at site p) (take k terms)))) →
     (p m : ℕ)
-    → is_among m (users_at (slice_set lists (place_of (input_of site term)) list) p)
-    ≡ (is_among m (users_at first p) || ((m == x) && list_any (looks_at site p) (take (k + 1) terms)))
-term_added site first lists terms k x term list at fits is known p m =
-    user_pushed lists (place_of (input_of site term)) x list fits is p m ∙
+    → is_user (slice_set sets (place_of (input_of site term)) set) p m
+    ≡ (is_user first p m || ((m == x) && list_any (looks_at site p) (take (k + 1) terms)))
+term_added site first sets terms k x term old set at fits there this others known p m =
+    user_put sets (place_of (input_of site term)) x old set fits there (set_more (values_of old) (values_of set) x this others) p m ∙
     (ap (λ b. b || ((m == x) && (p == place_of (input_of site term)))) (known p m) ∙
-    (together (is_among m (users_at first p)) (m == x) (list_any (looks_at site p) (take k terms)) (p == place_of (input_of site term)) ∙
-    ap (λ b. is_among m (users_at first p) || ((m == x) && b)) (sym (any_next (looks_at site p) terms k term at))))
+    (together (is_user first p m) (m == x) (list_any (looks_at site p) (take k terms)) (p == place_of (input_of site term)) ∙
+    ap (λ b. is_user first p m || ((m == x) && b)) (sym (any_next (looks_at site p) terms k term at))))
   where
     together : (a b c d : Bool) → ((a || (b && c)) || (b && d)) ≡ (a || (b && (c || d)))
     together true b c d = refl
@@ -125,17 +120,12 @@ place_fits site valid (MarkerTerm other) is = let few = valid.forms.few_markers 
 -- ---- marker by marker
 
 -- the users of the first k markers
-abbrev pub AreUsersUpTo : Site → ℕ → List (List ℕ) → Type 0
-AreUsersUpTo site k lists = (place m : ℕ) → is_among m (users_at lists place) ≡ (nat_lt m k && uses site m place)
+abbrev pub AreUsersUpTo : Site → ℕ → List Values → Type 0
+AreUsersUpTo site k sets = (place m : ℕ) → is_user sets place m ≡ (nat_lt m k && uses site m place)
 
-pub no_user : (site : Site) (n : ℕ) (lists : List (List ℕ)) → lists ≡ replicate n [] → AreUsersUpTo site 0 lists
-no_user site n lists e place m = ap (λ xs. is_among m (users_at xs place)) e ∙ (ap (is_among m) (empty n place) ∙ none_below m (uses site m place))
+pub no_user : (site : Site) (sets : List Values) → HasNoUsers sets → AreUsersUpTo site 0 sets
+no_user site sets are place m = are.none place m ∙ none_below m (uses site m place)
   where
-    empty : (n place : ℕ) → users_at (replicate n []) place ≡ []
-    empty zero place = refl
-    empty (suc n) zero = refl
-    empty (suc n) (suc place) = empty n place
-
     none_below : (m : ℕ) (b : Bool) → false ≡ (nat_lt m 0 && b)
     none_below m b = first (nat_lt m 0) b (grind (arith, nat_tests))
       where
@@ -143,12 +133,20 @@ no_user site n lists e place m = ap (λ xs. is_among m (users_at xs place)) e �
         first true b e = cc
         first false b e = refl
 
-pub users_next : (site : Site) (k : ℕ) (marker : Marker) (first lists : List (List ℕ)) → slice_get site.markers k ≡ Some marker
+-- one more place without a user
+pub none_pushed : (sets : List Values) (set : Values) → ((place m : ℕ) → is_user sets place m ≡ false) → ((m : ℕ) → values_of set m ≡ false)
+    → (place m : ℕ) → is_user (sets ++ set ∷ []) place m ≡ false
+none_pushed [] set none empty zero m = empty m
+none_pushed [] set none empty (suc place) m = refl
+none_pushed (first ∷ sets) set none empty zero m = none 0 m
+none_pushed (first ∷ sets) set none empty (suc place) m = none_pushed sets set (λ p n. none (suc p) n) empty place m
+
+pub users_next : (site : Site) (k : ℕ) (marker : Marker) (first sets : List Values) → slice_get site.markers k ≡ Some marker
     → AreUsersUpTo site k first →
     ((place m : ℕ)
-    → is_among m (users_at lists place) ≡ (is_among m (users_at first place) || ((m == k) && list_any (looks_at site place) marker.terms)))
-    → AreUsersUpTo site (k + 1) lists
-users_next site k marker first lists at known more place m =
+    → is_user sets place m ≡ (is_user first place m || ((m == k) && list_any (looks_at site place) marker.terms)))
+    → AreUsersUpTo site (k + 1) sets
+users_next site k marker first sets at known more place m =
     more place m ∙ (ap (λ b. b || ((m == k) && list_any (looks_at site place) marker.terms)) (known place m) ∙ elim (eqb_tells m k) [
       | inl here ↦ last (nat_lt m k) (nat_lt m (k + 1)) (m == k) (uses site m place) (list_any (looks_at site place) marker.terms) here.0
           (below_last m k here.1) (same_terms here.1)
@@ -180,8 +178,8 @@ users_next site k marker first lists at known more place m =
     other true false b u t e f = cc
     other false true b u t e f = cc
 
-pub users_all : (site : Site) (k : ℕ) (lists : List (List ℕ)) → length site.markers ≤ k → AreUsersUpTo site k lists → AreUsersOf site lists
-users_all site k lists done known place m = known place m ∙ elim (cases_lt m k) [
+pub users_all : (site : Site) (k : ℕ) (sets : List Values) → length site.markers ≤ k → AreUsersUpTo site k sets → AreUsersOf site sets
+users_all site k sets done known place m = known place m ∙ elim (cases_lt m k) [
   | inl less ↦ ap (λ b. b && uses site m place) (below m k less)
   | inr past ↦
       (let gone : uses site m place ≡ false =
@@ -234,9 +232,9 @@ looks_at_marker site valid x (FaultTerm panel) fits is = number_apart (512 + x) 
 looks_at_marker site valid x (MarkerTerm other) fits is = number_moved 512 x other
 
 -- the users at a marker's place are the markers that have it as a term
-pub users_of_marker : (site : Site) → IsValid site → (lists : List (List ℕ)) (x m : ℕ) → x < 256 → AreUsersOf site lists
-    → is_among m (users_at lists (512 + x)) ≡ has_term site m x
-users_of_marker site valid lists x m fits users = users (512 + x) m ∙ same (slice_get site.markers m) refl
+pub users_of_marker : (site : Site) → IsValid site → (sets : List Values) (x m : ℕ) → x < 256 → AreUsersOf site sets
+    → is_user sets (512 + x) m ≡ has_term site m x
+users_of_marker site valid sets x m fits users = users (512 + x) m ∙ same (slice_get site.markers m) refl
   where
     same : (marker : Option Marker) → slice_get site.markers m ≡ marker
         → list_any (looks_at site (512 + x)) (terms_of marker) ≡ list_any (is_marker x) (terms_of marker)
@@ -244,7 +242,7 @@ users_of_marker site valid lists x m fits users = users (512 + x) m ∙ same (sl
     same (Some marker) at = any_same (looks_at site (512 + x)) (is_marker x) marker.terms
         (λ k term has. looks_at_marker site valid x term fits (term_of_marker site valid m marker k term at has))
 
--- ---- lists and truth values of the code
+-- ---- what the code's slices and truth values are
 
 pub written_back : {X : Type 0} (n : ℕ) (more old : List X) → length more ≡ n → take n (more ++ drop (length more) old) ≡ more
 written_back n more old same = take-append-le n more (drop (length more) old) (omega (arith, same)) ∙ take_all n more (omega (arith, same))

@@ -11,5 +11,5 @@ use Rattle.cause_effect.specs.declared.plan.Plan.{Plan}
 pub record IsPlanOf (site : Site) (plan : Plan) : Type 0 where
   pub table : IsTableOf site plan.table
   pub order : IsOrder site plan.order
-  pub users : AreUsersOf site plan.users.lists
+  pub users : AreUsersOf site plan.users.sets
   pub outputs : plan.outputs ≡ site.outputs

@@ -1,5 +1,5 @@
 -- Who has a fact or a marker as a term.
-use Rattle.std.specs.Prelude.{◌≡◌, ℕ, ◌+◌, ◌==◌, ◌&&◌, Bool, false, List, [], slice_get, slice_index_or}
+use Rattle.std.specs.Prelude.{◌≡◌, ℕ, ◌+◌, ◌==◌, ◌&&◌, Bool, false, List, Option, Some, None, length, slice_get}
 use Rattle.std.specs.List.{list_any}
 use Rattle.site_types.specs.Bits.{any_below, has_bit}
 use Rattle.site_types.specs.declared.site.Site.{Site}
@@ -7,8 +7,10 @@ use Rattle.site_types.specs.declared.term.Term.{Term}
 use Rattle.marker_table.specs.declared.input.Input.{Input}
 use Rattle.marker_table.specs.declared.input.Input.TheVariants.{Zone as ZoneInput, Manual as ManualInput}
 use Rattle.marker_table.specs.declared.input.Input.TheVariants.{Fault as FaultInput, Marker as MarkerInput}
+use Rattle.marker_table.specs.declared.values.Values.{Values}
+use Rattle.marker_table.specs.Equations.{values_of}
 use Rattle.marker_table.specs.Table.{input_of}
-use Rattle.cause_effect.specs.Cycles.{is_among, terms_of}
+use Rattle.cause_effect.specs.Cycles.{terms_of}
 use Rattle.cause_effect.specs.Changes.{differ}
 
 -- where in the one table the users of call points, of markers and of faults begin, behind those of the zones, and how
@@ -40,26 +42,28 @@ looks_at site place term = place == place_of (input_of site term)
 abbrev pub uses : Site → ℕ → ℕ → Bool
 uses site m place = list_any (looks_at site place) (terms_of (slice_get site.markers m))
 
--- the users at a place
-abbrev pub users_at : List (List ℕ) → ℕ → List ℕ
-users_at lists place = slice_index_or lists place []
+-- of some markers, if there are any, this is one
+abbrev pub has_marker : Option Values → ℕ → Bool
+has_marker None m = false
+has_marker (Some markers) m = values_of markers m
 
--- the users of a marker
-abbrev pub marker_users : List (List ℕ) → ℕ → List ℕ
-marker_users lists marker = users_at lists (markers_from + marker)
+-- a marker is a user of what is at a place
+abbrev pub is_user : List Values → ℕ → ℕ → Bool
+is_user sets place m = has_marker (slice_get sets place) m
 
--- the list at each place has exactly the markers that have what is there as a term
-abbrev pub AreUsersOf : Site → List (List ℕ) → Type 0
-AreUsersOf site lists = (place m : ℕ) → is_among m (users_at lists place) ≡ uses site m place
+-- the users at each place are exactly the markers that have what is there as a term
+abbrev pub AreUsersOf : Site → List Values → Type 0
+AreUsersOf site sets = (place m : ℕ) → is_user sets place m ≡ uses site m place
 
--- a marker is marked
-abbrev pub is_marked : List Bool → ℕ → Bool
-is_marked marks m = slice_index_or marks m false
+-- nothing has a user yet, and there is room for those of everything
+pub record HasNoUsers (sets : List Values) : Type 0 where
+  pub size : length sets ≡ places
+  pub none : (place m : ℕ) → is_user sets place m ≡ false
 
 -- a bit that differs in two masks of 32 has the marker among its users, the first bit's being at this place
-abbrev pub uses_bit : List (List ℕ) → ℕ → ℕ → ℕ → ℕ → ℕ → Bool
-uses_bit lists first before after m bit = differ (has_bit before bit) (has_bit after bit)
-    && is_among m (users_at lists (first + bit))
+abbrev pub uses_bit : List Values → ℕ → ℕ → ℕ → ℕ → ℕ → Bool
+uses_bit sets first before after m bit = differ (has_bit before bit) (has_bit after bit)
+    && is_user sets (first + bit) m
 
-abbrev pub uses_word : List (List ℕ) → ℕ → ℕ → ℕ → ℕ → Bool
-uses_word lists first before after m = any_below 32 (uses_bit lists first before after m)
+abbrev pub uses_word : List Values → ℕ → ℕ → ℕ → ℕ → Bool
+uses_word sets first before after m = any_below 32 (uses_bit sets first before after m)

@@ -15,15 +15,15 @@
 //! [`compile`] alone takes memory. What the calls cost no clause says, but for the markers that
 //! [`Plan::solve_changed`] evaluates. As they are written, [`compile`] looks at each term at most once for each marker
 //! of the site, [`Plan::solve`] goes over the order of the markers once, and [`Plan::requests`] looks at each output
-//! twice. [`Plan::solve_changed`] compares the facts, and where they differ looks at a mark for each marker, at the
-//! terms of the markers that it evaluates, and at most once more at each of these terms to set the marks.
+//! twice. [`Plan::solve_changed`] compares the facts, and where they differ looks at a mark for each marker, and for
+//! each bit that differs and each marker that it evaluates at the eight words of 32 marks of those that have it as a
+//! term.
 #![tactic(auto)]
 
 mod arranged;
 mod asked;
 mod compiled;
 mod laws;
-mod members;
 mod plan;
 mod refusal;
 mod terms;

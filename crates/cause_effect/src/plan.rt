@@ -1,4 +1,4 @@
-ghost use Rattle.std.specs.Prelude.{◌≡◌, ◌<◌, replicate, false};
+ghost use Rattle.std.specs.Prelude.{◌≡◌, ◌<◌, ℕ, false};
 ghost use Rattle.site_types.specs.declared.site.Site.{Site as SiteOf};
 ghost use Rattle.marker_table.specs.Equations.{values_of};
 ghost use Rattle.cause_effect.specs.Changes.{DependsOnChanged, RoseByNumberOf};
@@ -38,7 +38,7 @@ impl Plan {
         requires name { blank.name ≡ L.name }
         requires parts { blank.parts ≡ L.parts }
         requires some { 0 < blank.parts }
-        requires none { values.old.marker ≡ replicate 256 false }
+        requires none { (marker : ℕ) → values_of values.old marker ≡ false }
         ensures { (site : SiteOf) → IsPlanOf site self.now
             → IsSolution site facts.now (values_of values.new) }
     {
@@ -47,7 +47,7 @@ impl Plan {
             let value = self
                 .table
                 .evaluate(*marker as u16, facts, values, &mut steps);
-            values.marker[*marker as usize] = value;
+            values.set(*marker, value);
         }
     }
 
@@ -72,9 +72,9 @@ impl Plan {
         }
         let mut marks = self.users.marks_of(before, after);
         for marker in self.order.as_slice() {
-            if marks[*marker as usize] {
+            if marks.is_true(*marker as u16) {
                 let value = self.table.evaluate(*marker as u16, after, values, steps);
-                values.marker[*marker as usize] = value;
+                values.set(*marker, value);
                 self.users.mark_users(*marker, &mut marks);
             }
         }

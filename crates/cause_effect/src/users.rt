@@ -1,14 +1,13 @@
 //! Which markers have a fact, or a marker, as a term.
 
-ghost use Rattle.std.specs.Prelude.{◌≡◌, ◌≤◌, ◌<◌, ◌+◌, ◌||◌, ℕ, IfOk, length, replicate, slice_index_or, false, []};
+ghost use Rattle.std.specs.Prelude.{◌≡◌, ◌≤◌, ◌<◌, ◌+◌, ◌||◌, ℕ};
 ghost use Rattle.site_types.specs.Valid.{IsValid};
 ghost use Rattle.site_types.specs.declared.site.Site.{Site as SiteOf};
 ghost use Rattle.cause_effect.specs.Changes.{has_changed};
-ghost use Rattle.cause_effect.specs.Cycles.{has_term, is_among};
-ghost use Rattle.cause_effect.specs.Users.{AreUsersOf, faults_from, is_marked, marker_users, users_at, uses_word};
+ghost use Rattle.marker_table.specs.Equations.{values_of};
+ghost use Rattle.cause_effect.specs.Users.{AreUsersOf, faults_from, is_user, markers_from, uses_word};
 
-use crate::members::Members;
-use marker_table::Facts;
+use marker_table::{Facts, Values};
 use site_types::has_bit_32;
 use tick_units::Items;
 
@@ -23,20 +22,20 @@ pub(crate) const FAULTS_FROM: usize = 768;
 pub(crate) const PLACES: usize = 776;
 
 /// For each fact and each marker, the markers that have it as a term: those of the 256 zones, of their call
-/// points, of the 256 markers and of the faults of 8 panels.
+/// points, of the 256 markers and of the faults of 8 panels. A set of markers stands as the values in which they
+/// are true.
 #[derive(Drop)]
 pub(crate) struct Users {
-    pub(crate) lists: Items<Members>,
+    pub(crate) sets: Items<Values>,
 }
 
 impl Users {
     // Marks the markers that have a fact as a term that changed.
-    pub(crate) fn marks_of(&self, before: &Facts, after: &Facts) -> [bool; 256]
-        ensures size { length result ≡ 256 }
-        ensures marks { (site : SiteOf) → IsValid site → AreUsersOf site self.now.lists → (m : ℕ)
-            → m < 256 → is_marked result m ≡ has_changed site before.now after.now m }
+    pub(crate) fn marks_of(&self, before: &Facts, after: &Facts) -> Values
+        ensures { (site : SiteOf) → IsValid site → AreUsersOf site self.now.sets → (m : ℕ)
+            → m < 256 → values_of result m ≡ has_changed site before.now after.now m }
     {
-        let mut marks = [false; 256];
+        let mut marks = Values::none();
         for panel in 0..8 {
             self.mark_word(
                 32 * panel,
@@ -61,20 +60,20 @@ impl Users {
     }
 
     // Marks the markers that have a marker as a term.
-    pub(crate) fn mark_users(&self, marker: u8, marks: &mut [bool; 256])
+    pub(crate) fn mark_users(&self, marker: u8, marks: &mut Values)
         ensures { (m : ℕ) → m < 256
-            → is_marked marks.new m
-            ≡ (is_marked marks.old m || is_among m (marker_users self.now.lists marker)) }
+            → values_of marks.new m
+            ≡ (values_of marks.old m || is_user self.now.sets (markers_from + marker) m) }
     {
         self.mark(MARKERS_FROM + marker as usize, marks);
     }
 
     // Marks the users of the bits that differ in two masks, the first bit's being at a place.
-    fn mark_word(&self, first: usize, before: u32, after: u32, marks: &mut [bool; 256])
+    fn mark_word(&self, first: usize, before: u32, after: u32, marks: &mut Values)
         requires { first ≤ faults_from }
         ensures { (m : ℕ) → m < 256
-            → is_marked marks.new m
-            ≡ (is_marked marks.old m || uses_word self.now.lists first before after m) }
+            → values_of marks.new m
+            ≡ (values_of marks.old m || uses_word self.now.sets first before after m) }
     {
         if before == after {
             return;
@@ -87,22 +86,13 @@ impl Users {
     }
 
     // Marks the users of what is at a place.
-    fn mark(&self, place: usize, marks: &mut [bool; 256])
+    fn mark(&self, place: usize, marks: &mut Values)
         ensures { (m : ℕ) → m < 256
-            → is_marked marks.new m
-            ≡ (is_marked marks.old m || is_among m (users_at self.now.lists place)) }
+            → values_of marks.new m
+            ≡ (values_of marks.old m || is_user self.now.sets place m) }
     {
-        if let Some(users) = self.lists.get(place) {
-            mark_each(users.as_slice(), marks);
+        if let Some(users) = self.sets.get(place) {
+            marks.join(users);
         }
-    }
-}
-
-fn mark_each(markers: &[u8], marks: &mut [bool; 256])
-    ensures { (m : ℕ) → m < 256
-        → is_marked marks.new m ≡ (is_marked marks.old m || is_among m markers.now) }
-{
-    for marker in markers {
-        marks[*marker as usize] = true;
     }
 }

@@ -9,6 +9,8 @@ pub mod Masked
 pub mod FindingIs
 pub mod TakenAnswer
 pub mod Turned
+pub mod Resting
+pub mod RunItems
 -- operations: what is kept after one, by its kind, and that those of other panels change nothing
 pub mod AppliedOperation
 pub mod OperationKinds

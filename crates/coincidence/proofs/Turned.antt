@@ -1,126 +1,153 @@
--- A turn takes answers one after another.
-use Rattle.std.proofs.Common.{◌≡◌, ⊎_elim, ℕ, zero, suc, ◌+◌, ◌<◌, ◌≤◌, List, [], ◌∷◌, ◌++◌, length, take, Some, slice_get, get_or, refl, sym, ◌∙◌, ap, subst, arith, append_assoc}
-use Rattle.std.proofs.lemmas.List.{take_more, take_all}
-use Rattle.std.proofs.lemmas.Option.{slice_get-get_or}
-use Rattle.tick_units.specs.Lane.{LaneState, with_put}
+-- Answers are taken one list after another.
+use Rattle.std.proofs.Common.{◌≡◌, ℕ, suc, ◌+◌, ◌≤◌, List, [], ◌∷◌, ◌++◌, length, refl, sym, ◌∙◌, ap, subst, arith, append_assoc, append-nil, length-append}
+use Rattle.tick_units.specs.Lane.{HasRoom, LaneState, with_put}
 use Rattle.site_types.specs.declared.site.Site.{Site}
 use Rattle.site_types.specs.declared.answer.Answer.{Answer}
 use Rattle.site_types.specs.declared.retained.Retained.{Retained}
-use Rattle.site_types.specs.Done.{Done, AreBy}
+use Rattle.site_types.specs.Done.{Done}
 use Rattle.coincidence_rules.specs.declared.finding.Finding.{Finding}
 use Rattle.coincidence_rules.specs.Findings.{finding_of, findings_after}
 use Rattle.coincidence_rules.specs.InOrder.{AreInOrder}
-use Rattle.coincidence_rules.proofs.Lists.{get_either, get_left, get_right, get_take}
+use Rattle.coincidence_rules.proofs.Lists.{get_left, get_right}
 use Rattle.coincidence.specs.declared.decide.Decide.{Decide}
-use Rattle.coincidence.specs.Stands.{DecidesFor}
-use Rattle.coincidence.specs.Premises.{IsOwn, MayTake}
+use Rattle.coincidence.specs.Changes.{FindsNext, PutsFindings, TakesAnswers}
+use Rattle.coincidence.specs.Stands.{CanTake, DecidesFor}
+use Rattle.coincidence.specs.Premises.{MayTake}
 
--- what stands at a place with a front behind it stands there with the whole
-get_front : (before xs : List Answer) (n i : ℕ) (a : Answer) → slice_get (before ++ take n xs) i ≡ Some a → slice_get (before ++ xs) i ≡ Some a
-get_front before xs n i a h =
-    ⊎_elim (λ left. get_left before xs i a left)
-    (λ right. subst (λ k. slice_get (before ++ xs) k ≡ Some a) (sym right.1) (get_right before xs right.0 a (get_take n right.0 xs a right.2).1))
-    (get_either before (take n xs) i a h)
-
-in_order_front : (before xs : List Answer) (n : ℕ) → AreInOrder (before ++ xs) → AreInOrder (before ++ take n xs)
-in_order_front before xs n o = record {
-  rising = λ i j a b le f g. o.rising i j a b le (get_front before xs n i a f) (get_front before xs n j b g);
-  once = λ i j a b f g p s. o.once i j a b (get_front before xs n i a f) (get_front before xs n j b g) p s;
+in_order_front : (front behind : List Answer) → AreInOrder (front ++ behind) → AreInOrder front
+in_order_front front behind o = record {
+  rising = λ i j a b le f g. o.rising i j a b le (get_left front behind i a f) (get_left front behind j b g);
+  once = λ i j a b f g p s. o.once i j a b (get_left front behind i a f) (get_left front behind j b g) p s;
 }
 
-pub one_more : (before xs : List Answer) (k : ℕ) (d : Answer) → k < length xs → (before ++ take k xs) ++ get_or xs k d ∷ [] ≡ before
-    ++ take (k + 1) xs
-one_more before xs k d small = rw append_assoc (ap (λ ys. before ++ ys) (sym (take_more xs k d small)))
+-- answers that may be taken may be taken in two parts
+module _ {site : Site} {panel : ℕ} {done : List Done} {taken : List Answer} (xs ys : List Answer) (may : MayTake site panel done taken (xs ++ ys)) where
+  ordered : AreInOrder ((taken ++ xs) ++ ys)
+  ordered = subst AreInOrder (sym (append_assoc taken xs ys)) may.order
 
--- the next of the answers may be taken
-pub may_next : (site : Site) (panel : ℕ) (done : List Done) (taken xs : List Answer) (k : ℕ) (d : Answer) → k < length xs
-    → MayTake site panel done taken xs → MayTake site panel done (taken ++ take k xs) (get_or xs k d ∷ [])
-may_next site panel done taken xs k d small may =
-    let at = slice_get-get_or xs k d small in
-    record {
-      own = λ i a is. own i a is (may.own k (get_or xs k d) at);
-      order = subst AreInOrder (sym (one_more taken xs k d small)) (in_order_front taken xs (k + 1) may.order);
-      since = λ i a is. since i a is (may.since k (get_or xs k d) at);
-    }
-  where
-    own : (i : ℕ) (a : Answer) → slice_get (get_or xs k d ∷ []) i ≡ Some a → IsOwn site panel (get_or xs k d).point → IsOwn site panel a.point
-    own zero a is h = let e : get_or xs k d ≡ a = cc in subst (λ (x : Answer). IsOwn site panel x.point) e h
-    own (suc i) a is h = cc
+  pub may_front : MayTake site panel done taken xs
+  may_front = record {
+    own = λ k a at. may.own k a (get_left xs ys k a at);
+    order = in_order_front (taken ++ xs) ys ordered;
+    since = λ k a at. may.since k a (get_left xs ys k a at);
+  }
 
-    since : (i : ℕ) (a : Answer) → slice_get (get_or xs k d ∷ []) i ≡ Some a → AreBy (get_or xs k d).stamp.0 done → AreBy a.stamp.0 done
-    since zero a is h = let e : get_or xs k d ≡ a = cc in subst (λ (x : Answer). AreBy x.stamp.0 done) e h
-    since (suc i) a is h = cc
+  pub may_behind : MayTake site panel done (taken ++ xs) ys
+  may_behind = record {
+    own = λ k a at. may.own (length xs + k) a (get_right xs ys k a at);
+    order = ordered;
+    since = λ k a at. may.since (length xs + k) a (get_right xs ys k a at);
+  }
 
--- findings of one answer more
-findings_more : (site : Site) (kept : Retained) (panel : ℕ) (done : List Done) (before xs : List Answer) (x : Answer)
-    → findings_after site kept panel done before (xs ++ x ∷ []) ≡ findings_after site kept panel done before xs
-    ++ finding_of site kept panel done (before ++ xs) x ∷ []
-findings_more site kept panel done before [] x = ap (λ ys. finding_of site kept panel done ys x ∷ []) (sym (ends before))
-  where
-    ends : (ys : List Answer) → ys ++ [] ≡ ys
-    ends [] = refl
-    ends (y ∷ ys) = ap (λ zs. y ∷ zs) (ends ys)
-findings_more site kept panel done before (y ∷ xs) x =
-    ap (λ fs. finding_of site kept panel done before y ∷ fs)
-    (findings_more site kept panel done (before ++ y ∷ []) xs x ∙ ap (λ ys. findings_after site kept panel done (before ++ y ∷ []) xs
-    ++ finding_of site kept panel done ys x ∷ []) (joined before y xs))
-  where
-    joined : (one : List Answer) (y : Answer) (more : List Answer) → (one ++ y ∷ []) ++ more ≡ one ++ y ∷ more
-    joined one y more = rw append_assoc refl
+-- the findings of two lists
+findings_both : (site : Site) (kept : Retained) (panel : ℕ) (done : List Done) (before xs ys : List Answer)
+    → findings_after site kept panel done before (xs ++ ys)
+    ≡ findings_after site kept panel done before xs ++ findings_after site kept panel done (before ++ xs) ys
+findings_both site kept panel done before [] ys = ap (λ b. findings_after site kept panel done b ys) (sym (append-nil before))
+findings_both site kept panel done before (x ∷ xs) ys =
+    ap (λ fs. finding_of site kept panel done before x ∷ fs)
+    (findings_both site kept panel done (before ++ x ∷ []) xs ys
+    ∙ ap (λ b. findings_after site kept panel done (before ++ x ∷ []) xs ++ findings_after site kept panel done b ys) (append_assoc before (x ∷ []) xs))
 
-put_more : (l : LaneState Finding) (xs : List Finding) (f : Finding) → with_put (with_put l xs) (f ∷ []) ≡ with_put l (xs ++ f ∷ [])
-put_more l xs f = same _ _ _ _ (append_assoc_of l.items xs (f ∷ [])) (counts (length xs) ∙ ap (λ n. l.put + n) (sym (length_more xs)))
-  where
-    append_assoc_of : (a b c : List Finding) → (a ++ b) ++ c ≡ a ++ (b ++ c)
-    append_assoc_of a b c = rw append_assoc refl
+length_findings : (site : Site) (kept : Retained) (panel : ℕ) (done : List Done) (before xs : List Answer)
+    → length (findings_after site kept panel done before xs) ≡ length xs
+length_findings site kept panel done before [] = refl
+length_findings site kept panel done before (x ∷ xs) = ap suc (length_findings site kept panel done (before ++ x ∷ []) xs)
 
-    length_more : (ys : List Finding) → length (ys ++ f ∷ []) ≡ length ys + 1
-    length_more [] = refl
-    length_more (y ∷ ys) = ap suc (length_more ys) ∙ next (length ys)
-      where
-        next : (n : ℕ) → suc (n + 1) ≡ suc n + 1
-        next n = omega arith
+same_lane : (l : LaneState Finding) (a b : List Finding) (p q : ℕ) → a ≡ b → p ≡ q
+    → ◌≡◌ {A = LaneState Finding} (record { items = a; put = p; taken = l.taken; quota = l.quota; capacity = l.capacity })
+    (record { items = b; put = q; taken = l.taken; quota = l.quota; capacity = l.capacity })
+same_lane l a b p q e h = cc
 
-    counts : (n : ℕ) → l.put + n + 1 ≡ l.put + (n + 1)
-    counts n = omega arith
+put_both : (l : LaneState Finding) (xs ys : List Finding) → with_put (with_put l xs) ys ≡ with_put l (xs ++ ys)
+put_both l xs ys =
+    let sum = length-append xs ys in
+    same_lane l _ _ _ _ (append_assoc l.items xs ys) (omega (arith, sum))
 
-    same : (a b : List Finding) (p q : ℕ) → a ≡ b → p ≡ q
-        → ◌≡◌ {A = LaneState Finding} (record { items = a; put = p; taken = l.taken; quota = l.quota; capacity = l.capacity })
-        (record { items = b; put = q; taken = l.taken; quota = l.quota; capacity = l.capacity })
-    same a b p q e h = cc
+put_none : (l : LaneState Finding) → l ≡ with_put l []
+put_none l = same_lane l _ _ _ _ (sym (append-nil l.items)) (omega arith)
 
--- what the loop has found after one answer more
-pub found_more : (site : Site) (kept : Retained) (panel : ℕ) (done : List Done) (taken xs : List Answer) (k : ℕ) (d : Answer) (first before after :
-    LaneState Finding) (f : Finding) → k < length xs
-    → before ≡ with_put first (findings_after site kept panel done taken (take k xs))
-    → f ≡ finding_of site kept panel done (taken ++ take k xs) (get_or xs k d) → after ≡ with_put before (f ∷ [])
-    → after ≡ with_put first (findings_after site kept panel done taken (take (k + 1) xs))
-found_more site kept panel done taken xs k d first before after f small b is a =
-    a ∙ ap (λ l. with_put l (f ∷ [])) b ∙ put_more first (findings_after site kept panel done taken (take k xs)) f
-    ∙ ap (λ g. with_put first (findings_after site kept panel done taken (take k xs) ++ g ∷ [])) is
-    ∙ ap (with_put first) (sym (findings_more site kept panel done taken (take k xs) (get_or xs k d)) ∙ ap (findings_after site kept panel done taken)
-    (sym (take_more xs k d small)))
+-- nothing is taken, and then one list behind another
+pub takes_none : (decide : Decide) → TakesAnswers decide [] decide
+takes_none decide site kept panel done taken stands may = subst (λ xs. DecidesFor site kept panel done xs decide) (sym (append-nil taken)) stands
 
-pub stands_front : (site : Site) (kept : Retained) (panel : ℕ) (done : List Done) (taken xs : List Answer) (k : ℕ) (decide : Decide) → length xs ≤ k
-    → DecidesFor site kept panel done (taken ++ take k xs) decide → DecidesFor site kept panel done (taken ++ xs) decide
-stands_front site kept panel done taken xs k decide all h = subst (λ ys. DecidesFor site kept panel done (taken ++ ys) decide) (take_all k xs all) h
+pub puts_none : (decide : Decide) (l : LaneState Finding) → PutsFindings decide [] l l
+puts_none decide l site kept panel done taken stands may = put_none l
 
-pub items_more : (l after : LaneState Finding) (f : Finding) (n k : ℕ) → after ≡ with_put l (f ∷ []) → length l.items ≡ n + k
-    → length after.items ≡ n + (k + 1)
-items_more l after f n k e h = ap (λ (x : LaneState Finding). length x.items) e ∙ length_more l.items ∙ next (length l.items) h
-  where
-    length_more : (ys : List Finding) → length (ys ++ f ∷ []) ≡ length ys + 1
-    length_more [] = refl
-    length_more (y ∷ ys) = ap suc (length_more ys) ∙ up (length ys)
-      where
-        up : (m : ℕ) → suc (m + 1) ≡ suc m + 1
-        up m = omega arith
+takes_both : (a b c : Decide) (xs ys : List Answer) → TakesAnswers a xs b → TakesAnswers b ys c → TakesAnswers a (xs ++ ys) c
+takes_both a b c xs ys first second site kept panel done taken stands may =
+    subst (λ zs. DecidesFor site kept panel done zs c) (append_assoc taken xs ys)
+    (second site kept panel done (taken ++ xs) (first site kept panel done taken stands (may_front xs ys may)) (may_behind xs ys may))
 
-    next : (m : ℕ) → m ≡ n + k → m + 1 ≡ n + (k + 1)
-    next m e = omega (arith, e)
+puts_both : (a b : Decide) (xs ys : List Answer) (l m n : LaneState Finding) → TakesAnswers a xs b → PutsFindings a xs l m → PutsFindings b ys m n
+    → PutsFindings a (xs ++ ys) l n
+puts_both a b xs ys l m n takes first second site kept panel done taken stands may =
+    let front = may_front xs ys may in
+    second site kept panel done (taken ++ xs) (takes site kept panel done taken stands front) (may_behind xs ys may)
+    ∙ ap (λ lane. with_put lane (findings_after site kept panel done (taken ++ xs) ys)) (first site kept panel done taken stands front)
+    ∙ put_both l (findings_after site kept panel done taken xs) (findings_after site kept panel done (taken ++ xs) ys)
+    ∙ ap (with_put l) (sym (findings_both site kept panel done taken xs ys))
 
-pub puts_more : (l after : LaneState Finding) (f : Finding) (n k : ℕ) → after ≡ with_put l (f ∷ []) → l.put ≡ n + k → after.put ≡ n + (k + 1)
-puts_more l after f n k e h = ap (λ (x : LaneState Finding). x.put) e ∙ next l.put h
-  where
-    next : (m : ℕ) → m ≡ n + k → m + 1 ≡ n + (k + 1)
-    next m e = omega (arith, e)
+pub puts_one : (decide : Decide) (x : Answer) (finding : Finding) (l m : LaneState Finding) → FindsNext decide x finding → m ≡ with_put l (finding ∷ [])
+    → PutsFindings decide (x ∷ []) l m
+puts_one decide x finding l m finds put site kept panel done taken stands may =
+    put ∙ ap (λ f. with_put l (f ∷ [])) (finds site kept panel done taken stands may)
+
+-- the second list may be taken behind the first
+can_front : (a : Decide) (xs ys : List Answer) → CanTake a (xs ++ ys) → CanTake a xs
+can_front a xs ys can = record {
+  site = can.site;
+  kept = can.kept;
+  panel = can.panel;
+  done = can.done;
+  taken = can.taken;
+  stands = can.stands;
+  may = may_front xs ys can.may;
+}
+
+can_behind : (a b : Decide) (xs ys : List Answer) → TakesAnswers a xs b → CanTake a (xs ++ ys) → CanTake b ys
+can_behind a b xs ys takes can = record {
+  site = can.site;
+  kept = can.kept;
+  panel = can.panel;
+  done = can.done;
+  taken = can.taken ++ xs;
+  stands = takes can.site can.kept can.panel can.done can.taken can.stands (may_front xs ys can.may);
+  may = may_behind xs ys can.may;
+}
+
+-- there is room behind the findings of some answers
+room_behind : (decide : Decide) (xs : List Answer) (l m : LaneState Finding) (all more : ℕ) → CanTake decide xs → PutsFindings decide xs l m
+    → HasRoom l all → length xs + more ≤ all → HasRoom m more
+room_behind decide xs l m all more can puts room fits =
+    let found = findings_after can.site can.kept can.panel can.done can.taken xs in
+    let is = puts can.site can.kept can.panel can.done can.taken can.stands can.may in
+    let count = length_findings can.site can.kept can.panel can.done can.taken xs in
+    let size = ap (λ (o : LaneState Finding). length o.items) is ∙ length-append l.items found in
+    let put = ap (λ (o : LaneState Finding). o.put) is in
+    let capacity = ap (λ (o : LaneState Finding). o.capacity) is in
+    let items = room.0 in
+    let ever = room.1 in
+    (omega (arith, count, size, capacity, items, fits), omega (arith, count, put, ever, fits))
+
+-- a part of the answers is taken next, behind those before it
+module _ (old now : Decide) (all before part more behind : List Answer) (is_more : more ≡ before ++ part) (parts : all ≡ more ++ behind) where
+  can_more : CanTake old all → CanTake old (before ++ part)
+  can_more can = can_front old (before ++ part) behind (subst (CanTake old) (parts ∙ ap (λ xs. xs ++ behind) is_more) can)
+
+  pub can_next : CanTake old all → TakesAnswers old before now → CanTake now part
+  can_next can takes = can_behind old now before part takes (can_more can)
+
+  pub room_next : (l m : LaneState Finding) (room : ℕ) → CanTake old all → PutsFindings old before l m → HasRoom l room → length all ≤ room
+      → HasRoom m (length part)
+  room_next l m room can puts has fits =
+      let sum = ap length parts ∙ length-append more behind in
+      let both = ap length is_more ∙ length-append before part in
+      room_behind old before l m room (length part) (can_front old before part (can_more can)) puts has (omega (arith, sum, both, fits))
+
+  pub takes_next : (next : Decide) → TakesAnswers old before now → TakesAnswers now part next → TakesAnswers old more next
+  takes_next next first second = subst (λ xs. TakesAnswers old xs next) (sym is_more) (takes_both old now next before part first second)
+
+  pub puts_next : (l m n : LaneState Finding) → TakesAnswers old before now → PutsFindings old before l m → PutsFindings now part m n
+      → PutsFindings old more l n
+  puts_next l m n takes first second = subst (λ xs. PutsFindings old xs l n) (sym is_more) (puts_both old now before part l m n takes first second)

@@ -1,5 +1,6 @@
 -- What the parts that decide make of an answer or an operation.
-use Rattle.std.specs.Prelude.{ℕ, ◌+◌, Bool, Option, Some, None, ◌==◌, nat_lt, if◌then◌else◌}
+use Rattle.std.specs.Prelude.{ℕ, ◌+◌, Bool, Option, Some, None, ◌==◌, ◌&&◌, nat_lt, if◌then◌else◌}
+use Rattle.std.specs.Option.{is_none}
 use Rattle.tick_units.specs.declared.tick.Tick.{Tick}
 use Rattle.tick_units.specs.declared.switch.Switch.{Switch}
 use Rattle.site_types.specs.declared.heard.Heard.{Heard}
@@ -56,6 +57,10 @@ silent_then _ n = 0
 abbrev pub point_noted : Heard → Bool → Tick → Tick → PointWatch → PointWatch
 point_noted heard counted floor stamp watch =
     record watch { silent = silent_then heard watch.silent; run = run_then counted floor.0 stamp watch.run }
+
+-- a point whose last answer was heard and didn't count
+abbrev pub is_at_rest : PointWatch → Bool
+is_at_rest watch = (watch.silent == 0) && is_none watch.run
 
 -- a zone after it was disabled or enabled at a tick; a disabling moves its floor
 abbrev pub zone_switched : Bool → Tick → ZoneWatch → ZoneWatch

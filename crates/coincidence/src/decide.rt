@@ -1,20 +1,23 @@
-ghost use Rattle.std.specs.Prelude.{◌≡◌, ◌<◌, ◌≤◌, [], ◌∷◌, false, length, IfOk};
+ghost use Rattle.std.specs.Prelude.{◌≡◌, ◌<◌, ◌≤◌, [], ◌∷◌, All, IfOk, false, length, true};
 ghost use Rattle.site_types.specs.Valid.{IsValid};
 ghost use Rattle.tick_units.specs.Lane.{HasRoom, after_turn};
+ghost use Rattle.answer_lanes.specs.Points.{answer_behind};
+ghost use Rattle.answer_lanes.specs.Runs.{HasShortCount, items_of};
 
 use crate::bits::{one_bit, two_bits};
 use crate::judgement::Judgement;
 use crate::observation::Observation;
 use crate::partner_finding::PartnerFinding;
-use crate::point_watch::PointWatch;
+use crate::point_watch::{PointWatch, are_all_at_rest};
 use crate::rules::{after, counts_unless, is_on, may_pair};
 use crate::watches::{watch_points, watch_zones};
 use crate::zone_watch::ZoneWatch;
+use answer_lanes::{Lane, Run};
 use arrayvec::ArrayVec;
 use coincidence_rules::Finding;
 use site_types::{Answer, Heard, Item, Operation, Retained, Site};
 use std::alloc::Global;
-use tick_units::{Lane, LastDone, NoMemory, Tick};
+use tick_units::{LastDone, NoMemory, Tick};
 
 /// Decides which answers of a panel's points confirm and release which of its zones.
 ///
@@ -37,6 +40,7 @@ impl Decide {
     ghost use Rattle.coincidence.specs.Changes.{AppliesOperation, FindsNext, PutsFindings, TakesAnswers, TakesJudged};
     ghost use Rattle.coincidence.specs.Queries.{FindsJudged, FindsLast, ObservesJudged, TellsCounted, TellsFloor};
     ghost use Rattle.coincidence.specs.Queries.{TellsJudgement, TellsPartnerFinding, TellsPartnerSecond, TellsSecond};
+    ghost use Rattle.coincidence.specs.Resting.{IsAtRest};
     ghost use Rattle.coincidence.specs.Stands.{DecidesFor, IsPlaceIn, CanObserve, CanTake, taken_by, CanApply};
     ghost use Rattle.coincidence.specs.Stands.{off_operation};
 
@@ -67,10 +71,10 @@ impl Decide {
         if answers.len() == 0 {
             return;
         }
-        let mut batch: ArrayVec<Answer, 32> = ArrayVec::new();
+        let mut batch: ArrayVec<Run<Answer>, 32> = ArrayVec::new();
         answers.take_turn(&mut batch);
-        for answer in batch.as_slice() {
-            findings.put(self.take(answer));
+        for run in batch.as_slice() {
+            self.take_run(run, findings);
         }
     }
 
@@ -107,6 +111,43 @@ impl Decide {
         }
     }
 
+    // Takes the answers of a run, and puts one finding for each.
+    fn take_run(&mut self, run: &Run<Answer>, findings: &mut Lane<Finding>)
+        requires run { HasShortCount run.now }
+        requires room { HasRoom findings.old run.now.count }
+        requires may { CanTake self.old (items_of answer_behind run.now) }
+        ensures taken { TakesAnswers self.old (items_of answer_behind run.now) self.new }
+        ensures findings { PutsFindings self.old (items_of answer_behind run.now) findings.old
+            findings.new }
+    {
+        if self.are_at_rest(run) {
+            findings.put_run(Run {
+                first: plain_finding(&run.first),
+                taken: run.taken,
+                count: run.count,
+            });
+            return;
+        }
+        for place in run.taken..run.taken + run.count {
+            let finding = self.take(&run.item(place));
+            findings.put(finding);
+        }
+    }
+
+    // Whether the answers of a run are quiet and of points at rest, so that they change nothing that is kept.
+    fn are_at_rest(&self, run: &Run<Answer>) -> bool
+        ensures { result ≡ true → All (IsAtRest self.now) (items_of answer_behind run.now) }
+    {
+        let first = run.first.point as usize + run.taken as usize;
+        let end = first + run.count as usize;
+        if !matches!(run.first.heard, Heard::Quiet)
+            || end > self.points.len().min(u16::MAX as usize)
+        {
+            return false;
+        }
+        are_all_at_rest(&self.points[first..end])
+    }
+
     // Takes an answer: what it means, by those taken up to it.
     fn take(&mut self, answer: &Answer) -> Finding
         requires { CanTake self.old (answer.now ∷ []) }
@@ -137,15 +178,9 @@ impl Decide {
         requires { CanObserve self.now answer.now }
         ensures { is_alarm answer.now.heard ≡ false → FindsLast self.now answer.now result }
     {
-        let point = &self.points[answer.point as usize];
         Finding {
-            stamp: answer.stamp,
-            point: answer.point,
-            counted: 0,
-            confirmed: 0,
-            manual: 0,
-            released: 0,
-            missing: point.is_missing(),
+            missing: self.points[answer.point as usize].is_missing(),
+            ..plain_finding(answer)
         }
     }
 
@@ -323,5 +358,22 @@ impl Decide {
                 }
             }
         }
+    }
+}
+
+ghost use Rattle.coincidence.specs.Resting.{plain_of};
+
+// What an answer means that tells of no zone, of a point that isn't missing.
+fn plain_finding(answer: &Answer) -> Finding
+    ensures { result ≡ plain_of answer.now }
+{
+    Finding {
+        stamp: answer.stamp,
+        point: answer.point,
+        counted: 0,
+        confirmed: 0,
+        manual: 0,
+        released: 0,
+        missing: false,
     }
 }

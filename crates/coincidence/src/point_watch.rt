@@ -1,5 +1,5 @@
 ghost use Rattle.std.specs.Prelude.{◌≡◌, ◌≤◌};
-ghost use Rattle.coincidence.specs.Parts.{point_begun, point_noted, switch_after};
+ghost use Rattle.coincidence.specs.Parts.{is_at_rest, point_begun, point_noted, switch_after};
 ghost use Rattle.site_types.specs.Profile.{missing_askings};
 
 use site_types::{Heard, Point};
@@ -50,6 +50,13 @@ impl PointWatch {
         self.silent >= MISSING_ASKINGS
     }
 
+    /// Whether its last answer wasn't silent and didn't count, so that a quiet one leaves it as it is.
+    pub fn is_at_rest(&self) -> bool
+        ensures { result ≡ is_at_rest self.now }
+    {
+        self.silent == 0 && self.run.is_none()
+    }
+
     pub fn set_off(&mut self, off: bool, at: Tick)
         requires { self.old.off.since.0 < at.0 }
         ensures { self.new ≡ record self.old { off = switch_after off at self.old.off } }
@@ -85,4 +92,13 @@ fn run_after(run: Option<Tick>, counted: bool, floor: Tick, stamp: Tick) -> Opti
         Some(first) => if floor.0 < first.0 { run } else { Some(stamp) },
         None => Some(stamp),
     }
+}
+
+ghost use Rattle.std.specs.List.{list_all};
+
+/// Whether each of some points is at rest.
+pub fn are_all_at_rest(points: &[PointWatch]) -> bool
+    ensures { result ≡ list_all is_at_rest points.now }
+{
+    points.iter().all(|point| point.is_at_rest())
 }

@@ -13,12 +13,7 @@ use trial_cases::{Lines, below};
 
 /// A drawn record: in its ticks events of points, cables, supplies, links, outputs and operations, and in most a drawn
 /// order of turns.
-pub(crate) fn drawn_record(
-    alloc: Global,
-    site: &Site,
-    pace: &Pace,
-    draws: &mut Pcg32,
-) -> Result<String>
+pub fn drawn_record(alloc: Global, site: &Site, pace: &Pace, draws: &mut Pcg32) -> Result<String>
     requires { IsValid site.now }
 {
     let mut lines = Lines::new(alloc);

@@ -15,6 +15,7 @@ mod played;
 mod told;
 
 pub use drawing::{DrawnRun, drawn_run};
+pub use drawn_records::drawn_record;
 pub use histories::history_blocks;
 pub use pace::Pace;
 pub use played::{Played, by_rules, by_system};

@@ -5,6 +5,7 @@ pub mod Pages
 pub mod PageOrder
 pub mod Listing
 pub mod NamedThings
+pub mod KnownNames
 pub mod ListItems
 pub mod EqualFaces
 pub mod SameBits

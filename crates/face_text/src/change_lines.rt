@@ -90,8 +90,8 @@ pub fn thing_line(site: &Site, panel: u8, group: Group, number: u8, on: bool) ->
     named_line(panel, group, &name_of(site, panel, group, number), on)
 }
 
-// The line of a thing that has this name; nothing where the site has none.
-fn named_line(panel: u8, group: Group, name: &Option<Label>, on: bool) -> ArrayString<64>
+/// The line of a thing that has this name; nothing where the site has none.
+pub fn named_line(panel: u8, group: Group, name: &Option<Label>, on: bool) -> ArrayString<64>
     ensures text { result.bytes ≡ line_of_thing panel group (number_of_truth on)
         (option_map (λ label. label.bytes) name.now) }
     ensures short { length result.bytes ≤ 64 }

@@ -2,7 +2,8 @@
 //!
 //! Begin with [`read_faces`]. It takes line by line (`lines`), reads each alone to the [`Entry`] whose own line
 //! it is (`entry_reading`, over `candidates` and `thing_reading`), and puts that behind what the lines before
-//! told (`told`), where it may stand.
+//! told (`told`), where it may stand. What a line names is found without a search of the site's lists, by a
+//! guess that is looked at (`known_names`, over `guesses`).
 
 ghost use Rattle.std.specs.Prelude.{◌+◌, ◌<◌, ◌^◌, length, IfErr, IfOk};
 ghost use Rattle.site_types.specs.Valid.{IsValid};
@@ -15,6 +16,8 @@ mod entry;
 mod entry_forms;
 mod entry_lines;
 mod entry_reading;
+mod guesses;
+mod known_names;
 mod laws;
 mod lines;
 mod numbered;
@@ -28,6 +31,7 @@ use crate::timeline::Timeline;
 pub use change::Change;
 pub use entry::Entry;
 use entry_reading::{is_opening, read_entry};
+use guesses::Guesses;
 pub use laws::texts_are_their_own;
 use lines::split_line;
 use site_types::Site;
@@ -37,7 +41,7 @@ use tick_units::Tick;
 use told::ToldSoFar;
 
 /// The timeline whose text this is. Each line is looked at once, by what the lines before it told; a step
-/// takes memory for its faces.
+/// takes memory for its faces, and a table of where the site's things stand some 30 KB.
 ///
 /// # Errors
 ///
@@ -55,11 +59,12 @@ pub fn read_faces(alloc: Global, site: &Site, text: &[u8]) -> Result<Timeline, T
     if !is_opening(site, line) {
         return Err(TextRefusal::BadLine(1));
     }
+    let guesses = Guesses::of(alloc, site)?;
     let mut told = ToldSoFar::nothing(alloc, site)?;
     let mut count = 1;
     while let Some((line, behind)) = split_line(rest) {
         count += 1;
-        let Some(entry) = read_entry(site, line) else {
+        let Some(entry) = read_entry(site, &guesses, line) else {
             return Err(TextRefusal::BadLine(count));
         };
         if let Entry::End(last) = entry {

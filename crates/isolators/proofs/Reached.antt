@@ -1,6 +1,7 @@
 -- What a line keeps against what the rule says of its loop.
 use Rattle.std.proofs.Common.{◌≡◌, ℕ, ◌+◌, ◌-◌, ◌<◌, ◌≤◌, ◌==◌, List, Bool, true, false, not, ◌||◌, ◌&&◌, nat_le, slice_index, slice_index_or, slice_set, length, refl, sym, ◌∙◌, ap, arith, inl, inr}
 use Rattle.std.specs.List.{list_any, range_with_len}
+use Rattle.std.proofs.Math.Bool.{or-false, or-true}
 use Rattle.std.proofs.lemmas.Bool.Decides.{nat_tests}
 use Rattle.std.proofs.lemmas.Grind.{common_steps}
 use Rattle.std.proofs.lemmas.Bool.{cases_eq}
@@ -15,23 +16,15 @@ use Rattle.isolators.specs.Stands.{PassAhead, PassBehind, StandsFor}
 use Rattle.isolators.proofs.Sections.{section_below}
 use Rattle.isolators.proofs.Ranges.{all_true, all_false, any-more}
 
-or_true : (b : Bool) → (b || true) ≡ true
-or_true true = refl
-or_true false = refl
-
-or_false : (b : Bool) → (b || false) ≡ b
-or_false true = refl
-or_false false = refl
-
 -- one piece more is tested
 module _ (test : ℕ → Bool) (n : ℕ) (before after : Bool) (e : before ≡ list_any test (range_with_len 0 n)) where
   pub found_same : test n ≡ false → after ≡ before → after ≡ list_any test (range_with_len 0 (n + 1))
   found_same none same =
-      same ∙ e ∙ sym (any-more test n ∙ ap (λ b. list_any test (range_with_len 0 n) || b) none ∙ or_false (list_any test (range_with_len 0 n)))
+      same ∙ e ∙ sym (any-more test n ∙ ap (λ b. list_any test (range_with_len 0 n) || b) none ∙ or-false (list_any test (range_with_len 0 n)))
 
   pub found_here : test n ≡ true → after ≡ true → after ≡ list_any test (range_with_len 0 (n + 1))
   found_here here now =
-      now ∙ sym (any-more test n ∙ ap (λ b. list_any test (range_with_len 0 n) || b) here ∙ or_true (list_any test (range_with_len 0 n)))
+      now ∙ sym (any-more test n ∙ ap (λ b. list_any test (range_with_len 0 n) || b) here ∙ or-true (list_any test (range_with_len 0 n)))
 
 -- the sections that hold a short, one piece more being looked at
 module _ (plan : LoopPlan) (cable : Cable) (n place : ℕ) (shorted : List Bool) (known :

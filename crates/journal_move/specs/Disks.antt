@@ -1,5 +1,9 @@
 -- The disks of a move, as it finds and leaves them.
-use Rattle.std.specs.Prelude.{◌≡◌, ◌↔◌, ℕ, List, Option}
+use Rattle.std.specs.Prelude.{◌≡◌, ◌↔◌, ◌⊎◌, ◌≤◌, ℕ, List, Option}
+use Rattle.panel_edges.specs.Faults.{Rose}
+use Rattle.program_status.specs.Statuses.{number_of}
+use Rattle.program_status.specs.declared.outcome.Outcome.{Outcome}
+use Rattle.program_status.specs.declared.status.Status.TheVariants.{DiskFault, NoMemory}
 use Rattle.retained_journal.specs.Outcomes.{SparesFull, UnlessEmpty}
 
 -- what a disk told of its bytes before a call, whether the call left it alone, whether what is said of a crash holds of
@@ -29,3 +33,14 @@ module _ {D : Type 0} (seen : D → Option (List ℕ)) (honest : D → Type 0) (
     pub same : UnlessEmpty (seen old) (seen new ≡ seen old)
     pub left : SparesFull honest seen moment left_since images old new
     pub kept_honest : honest new ↔ honest old
+
+  -- both disks are spared; the outcome is a disk fault only where the count of faults of one of them rose, and where
+  -- memory ran out the new journal isn't begun
+  pub record SparesBoth (moment : D → ℕ) (left_since : D → ℕ → List ℕ → Type 0) (faults : D → ℕ)
+      (old new target_old target_new : D) (outcome : Outcome) : Type 0 where
+    pub journal : Spares moment left_since old new
+    pub target : Spares moment left_since target_old target_new
+    pub blamed : outcome.status ≡ number_of DiskFault
+        → Rose (faults old) (faults new) ⊎ Rose (faults target_old) (faults target_new)
+    pub later : faults old ≤ faults new
+    pub before_target : outcome.status ≡ number_of NoMemory → target_new ≡ target_old

@@ -1,8 +1,8 @@
 //! The steps of a move.
 
 ghost use Rattle.std.specs.Prelude.{◌≡◌, ◌≢◌, ◌⊎◌, ◌≤◌};
-ghost use Rattle.journal_move.specs.Disks.{Spares, disk_call, disks_of};
-ghost use Rattle.journal_move.specs.Moves.{AnswersMove, EndsAtTarget, MovesBetween, MovesOn};
+ghost use Rattle.journal_move.specs.Disks.{Spares, SparesBoth, disk_call, disks_of};
+ghost use Rattle.journal_move.specs.Moves.{AnswersMove, EndsAtTarget, MovesBetween};
 ghost use Rattle.journal_move.specs.Moves.{file_of_site};
 ghost use Rattle.panel_edges.specs.Faults.{Rose};
 ghost use Rattle.program_status.specs.Statuses.{BlamesDisk, BlamesReads, BlamesWrites, IsSilentWithoutMemory};
@@ -48,43 +48,12 @@ pub fn move_journal<F: Shelf, K: Sink, D: Disk>(
         target.old target.new }
     ensures later { D.faults disk.old ≤ D.faults disk.new }
 {
-    match load(alloc, old_name, shelf) {
-        Ok(loaded) => move_from(alloc, &loaded, new_name, shelf, out, disk, target),
-        Err(stop) => stop_with_old(&stop, out),
-    }
-}
-
-// Looks for the new site and moves what is kept of the old one.
-#[tactic(auto, using(crate::proofs::Sparing::spares_alone))]
-fn move_from<F: Shelf, K: Sink, D: Disk>(
-    alloc: Global,
-    old: &Loaded,
-    new_name: &str,
-    shelf: &mut F,
-    out: &mut K,
-    disk: &mut D,
-    target: &mut D,
-) -> Outcome
-    requires { IsLoaded old.now }
-    ensures answers { MovesOn (file_of_site old.now) new_name.now (files_of F.files F.faults
-        shelf.old shelf.new) (disks_of D.seen D.honest D.images disk.old disk.new target.old
-        target.new) (K.written out.old) (K.written out.new) result }
-    ensures read { BlamesReads result (F.faults shelf.old) (F.faults shelf.new) }
-    ensures write { BlamesWrites result (K.write_faults out.old) (K.write_faults out.new) }
-    ensures disk { result.status ≡ number_of Status.DiskFault
-        → Rose (D.faults disk.old) (D.faults disk.new)
-        ⊎ Rose (D.faults target.old) (D.faults target.new) }
-    ensures memory { IsSilentWithoutMemory result (K.written out.old) (K.written out.new) }
-    ensures before_target { result.status ≡ number_of Status.NoMemory → target.new ≡ target.old }
-    ensures ticks { (result.ticks ≡ 0) × (result.store_failures ≡ 0) }
-    ensures journal { Spares D.seen D.honest D.images D.moment D.left_since disk.old disk.new }
-    ensures spares { Spares D.seen D.honest D.images D.moment D.left_since
-        target.old target.new }
-    ensures later { D.faults disk.old ≤ D.faults disk.new }
-    ensures shelf_later { F.faults shelf.old ≤ F.faults shelf.new }
-{
+    let old = match load(alloc, old_name, shelf) {
+        Ok(old) => old,
+        Err(stop) => return stop_with_old(&stop, out),
+    };
     match load(alloc, new_name, shelf) {
-        Ok(loaded) => move_between(alloc, old, &loaded, out, disk, target),
+        Ok(new) => move_between(alloc, &old, &new, out, disk, target),
         Err(stop) => stop_with(&stop, out),
     }
 }
@@ -106,16 +75,10 @@ fn move_between<K: Sink, D: Disk>(
         (K.written out.old) (K.written out.new) result }
     ensures read { result.status ≢ number_of Status.ReadFault }
     ensures write { BlamesWrites result (K.write_faults out.old) (K.write_faults out.new) }
-    ensures disk { result.status ≡ number_of Status.DiskFault
-        → Rose (D.faults disk.old) (D.faults disk.new)
-        ⊎ Rose (D.faults target.old) (D.faults target.new) }
     ensures memory { IsSilentWithoutMemory result (K.written out.old) (K.written out.new) }
-    ensures before_target { result.status ≡ number_of Status.NoMemory → target.new ≡ target.old }
     ensures ticks { (result.ticks ≡ 0) × (result.store_failures ≡ 0) }
-    ensures journal { Spares D.seen D.honest D.images D.moment D.left_since disk.old disk.new }
-    ensures spares { Spares D.seen D.honest D.images D.moment D.left_since
-        target.old target.new }
-    ensures later { D.faults disk.old ≤ D.faults disk.new }
+    ensures spares { SparesBoth D.seen D.honest D.images D.moment D.left_since D.faults
+        disk.old disk.new target.old target.new result }
 {
     match Journal::open(disk, old.digest, old.site.format == 2) {
         Ok((journal, _)) => move_kept(alloc, old, new, journal.kept(), out, target),

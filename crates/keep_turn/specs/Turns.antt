@@ -35,20 +35,25 @@ pub record FailsByItsDisk (before after : ℕ) (answer : Store) : Type 0 where
   pub later : before ≤ after
   pub failed : answer ≡ Failed → Rose before after
 
-module _ {D : Type 0} (honest : D → Type 0) (images : D → List ℕ → Type 0) (moment : D → ℕ) (left_since : D → ℕ → List ℕ
-    → Type 0) (faults : D → ℕ) where
-  -- a turn with this batch, on a disk, answered so and left this journal
-  pub record MakesTurn (before after : D) (batch : List Change) (old : Journal) (answer : Store) (new : Journal) :
-      Type 0 where
+module _ {D : Type 0} (honest : D → Type 0) (images : D → List ℕ → Type 0) (faults : D → ℕ) where
+  -- a turn of Keep on a disk that answered so leaves the journal standing on it
+  pub record LeavesJournal (before after : D) (old : Journal) (answer : Store) (new : Journal) : Type 0 where
     pub stands : Stands honest images after new
-    pub answers : AnswersTurn batch old answer new
     pub same : TriesAtMostOnce old new
     pub early : IsEarly old → IsEarly new
     -- after any answer but a failure each file that a crash may leave opens to what is kept
     pub opens : answer ≢ Failed → honest after → HasRoom new → EachOpens (images after) new
     pub left : honest after → HasRoom new → EachMayBeLeft (images after) new
+    pub keeps_honest : honest after ↔ honest before
+    pub cause : FailsByItsDisk (faults before) (faults after) answer
+
+module _ {D : Type 0} (honest : D → Type 0) (images : D → List ℕ → Type 0) (moment : D → ℕ) (left_since : D → ℕ → List ℕ
+    → Type 0) (faults : D → ℕ) where
+  -- a turn with this batch, on a disk, answered so and left this journal
+  pub record MakesTurn (before after : D) (batch : List Change) (old : Journal) (answer : Store) (new : Journal) :
+      Type 0 where
+    pub leaves : LeavesJournal honest images faults before after old answer new
+    pub answers : AnswersTurn batch old answer new
     -- at each moment of the turn a crash leaves what it might have left before, or what is kept with the batch
     pub moments : honest before → HasRoomForTwo old
         → LeavesOnly moment left_since before after (MayLeaveOr old batch)
-    pub keeps_honest : honest after ↔ honest before
-    pub cause : FailsByItsDisk (faults before) (faults after) answer

@@ -2,10 +2,12 @@
 
 ghost use Rattle.std.specs.Prelude.{◌≡◌};
 
+use answer_lanes::{Lane, Run};
 use anyhow::{Result, bail};
 use arrayvec::ArrayVec;
+use site_types::{Answer, Heard};
 use std::alloc::Global;
-use tick_units::Lane;
+use tick_units::Tick;
 use trial_cases::Lines;
 
 /// How much lies in a lane after each step: a `batch` of 32 that is put, or a `turn` of its taker.
@@ -31,25 +33,29 @@ pub(crate) fn lane_lengths(alloc: Global, steps: &str) -> Result<String> {
     lines.done()
 }
 
-// Puts a batch of 32 items.
-fn put_batch(lane: &mut Lane<u64>) -> Result<()>
+// Puts the answers of 32 points.
+fn put_batch(lane: &mut Lane<Answer>) -> Result<()>
     requires { (lane.old.quota ≡ 32) × (lane.old.capacity ≡ 64) }
     ensures { (lane.new.quota ≡ 32) × (lane.new.capacity ≡ 64) }
 {
-    for item in 0..32 {
+    for point in 0..32 {
         if lane.len() >= 64 || lane.put_count() >= 1000 {
             bail!("a full lane");
         }
-        lane.put(item);
+        lane.put(Answer {
+            stamp: Tick(1),
+            point,
+            heard: Heard::Quiet,
+        });
     }
     Ok(())
 }
 
 // A turn of the taker.
-fn take_batch(lane: &mut Lane<u64>)
+fn take_batch(lane: &mut Lane<Answer>)
     requires { (lane.old.quota ≡ 32) × (lane.old.capacity ≡ 64) }
     ensures { (lane.new.quota ≡ 32) × (lane.new.capacity ≡ 64) }
 {
-    let mut batch: ArrayVec<u64, 32> = ArrayVec::new();
+    let mut batch: ArrayVec<Run<Answer>, 32> = ArrayVec::new();
     lane.take_turn(&mut batch);
 }

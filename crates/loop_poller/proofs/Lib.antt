@@ -7,3 +7,7 @@ pub mod Filling
 pub mod Lines
 -- what a turn puts into the lane
 pub mod Lanes
+-- groups of points that are quiet, on a cable with nothing wrong
+pub mod Sound
+pub mod Quiet
+pub mod QuietAnswers

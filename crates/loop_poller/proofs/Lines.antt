@@ -111,14 +111,14 @@ knows_points site panel line points are place point h =
       | inr past ↦ (let none : slice_index_or points place None ≡ None = grind (arith, common_steps) in absurd cc)
     ]
 
-set_at : {X : Type 0} (xs : List X) (i k : ℕ) (y x : X) → slice_get (slice_set xs i y) k ≡ Some x → i < length xs → k ≡ i → y ≡ x
+pub set_at : {X : Type 0} (xs : List X) (i k : ℕ) (y x : X) → slice_get (slice_set xs i y) k ≡ Some x → i < length xs → k ≡ i → y ≡ x
 set_at xs i k y x h within same =
     let long : length (slice_set xs i y) ≡ length xs = length-set xs i y in
     let a = slice_get-get_or (slice_set xs i y) k x (omega arith) in
     let b = get_or-set_at xs i k y x same within in
     cc
 
-set_past : {X : Type 0} (xs : List X) (i k : ℕ) (y x : X) → slice_get (slice_set xs i y) k ≡ Some x → (k ≡ i → ⊥) → slice_get xs k ≡ Some x
+pub set_past : {X : Type 0} (xs : List X) (i k : ℕ) (y x : X) → slice_get (slice_set xs i y) k ≡ Some x → (k ≡ i → ⊥) → slice_get xs k ≡ Some x
 set_past xs i k y x h other =
     let long : length (slice_set xs i y) ≡ length xs = length-set xs i y in
     let within = slice_get_within (slice_set xs i y) k x h in

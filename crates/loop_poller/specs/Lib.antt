@@ -2,5 +2,6 @@ pub mod Asked
 pub mod Cables
 pub mod Calls
 pub mod Points
+pub mod Groups
 pub mod Stands
 pub mod Puts

@@ -1,22 +1,40 @@
 -- What a poller keeps of its site and of what it was told.
-use Rattle.std.specs.Prelude.{◌≡◌, ℕ, ◌+◌, ◌<◌, ◌≤◌, List, length, Option, Some, None, slice_get, slice_index_or}
+use Rattle.std.specs.Prelude.{◌≡◌, ℕ, ◌+◌, ◌-◌, ◌/◌, ◌<◌, ◌≤◌, false, List, length, Option, Some, None}
+use Rattle.std.specs.Prelude.{slice_get, slice_index_or}
 use Rattle.site_types.specs.declared.loop_plan.LoopPlan.{LoopPlan}
 use Rattle.site_types.specs.declared.point_state.PointState.{PointState}
 use Rattle.site_types.specs.declared.point_state.PointState.TheVariants.{Quiet}
 use Rattle.site_types.specs.declared.site.Site.{Site}
 use Rattle.site_types.specs.Valid.{IsValid}
 use Rattle.isolators.specs.Reach.{Cable}
+use Rattle.loop_poller.specs.declared.group.Group.{Group}
 use Rattle.loop_poller.specs.declared.polled_line.PolledLine.{PolledLine}
 use Rattle.loop_poller.specs.declared.poller.Poller.{Poller}
 use Rattle.site_types.specs.Things.{loop_of}
+use Rattle.loop_poller.specs.Asked.{status_on}
 use Rattle.loop_poller.specs.Cables.{CableStands}
+use Rattle.loop_poller.specs.Groups.{AreGroups, AreQuiet}
 use Rattle.loop_poller.specs.Points.{ArePoints}
 use Rattle.loop_poller.specs.Calls.{Call, told_cable, told_point}
 
 -- a loop of the panel
 pub record LineStands (site : Site) (panel line : ℕ) (cable : Cable) (polled : PolledLine) : Type 0 where
   pub points : ArePoints site panel line polled.points.items
+  pub groups : AreGroups polled.points.items polled.groups.items
   pub cable_stands : CableStands (loop_of site panel line) cable polled.cable
+
+-- nothing is wrong with the cable of a loop
+pub record IsSoundLine (polled : PolledLine) : Type 0 where
+  pub whole : (site : Site) (panel line : ℕ) (cable : Cable) → LineStands site panel line cable polled
+      → (status_on (loop_of site panel line) cable).broken ≡ false
+  pub unshorted : (site : Site) (panel line : ℕ) (cable : Cable) → LineStands site panel line cable polled
+      → (status_on (loop_of site panel line) cable).shorted ≡ false
+
+-- a group of a loop begins at this address, its points are quiet, and nothing is wrong with the cable
+pub record IsQuietGroup (polled : PolledLine) (states : List PointState) (first : ℕ) (group : Group) : Type 0 where
+  pub is : slice_get polled.groups.items ((first - 1) / 8) ≡ Some (Some group)
+  pub quiet : AreQuiet states group
+  pub sound : IsSoundLine polled
 
 -- the states of the site's points
 pub record AreStates (site : Site) (points : ℕ → PointState) (states : List PointState) : Type 0 where

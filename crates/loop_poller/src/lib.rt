@@ -5,11 +5,17 @@
 //! be at. Begin with [`Poller`]: it is made for a panel of a site, is told of points and pieces of cable, and
 //! in its turn of a tick puts the answers of that tick into a lane, in order of loop, then address.
 //!
-//! [`Poller::new`] alone takes memory, and goes over the site's points once for each loop. [`Poller::turn`]
-//! looks at 32 addresses, whatever the site's size.
+//! Where the points at eight addresses stand one behind the other in the site, all of them are quiet and nothing is
+//! wrong with the cable, their answers are put as one run.
+//!
+//! [`Poller::new`] alone takes memory, and goes over the site's points once for each loop. Of each eight addresses
+//! of a loop it keeps six bytes besides the points: the place of the first one and how many there are, where they
+//! stand one behind the other. [`Poller::turn`] looks at 32 addresses, whatever the site's size.
 #![tactic(auto)]
 
 mod cables;
+mod group;
+mod groups;
 mod points;
 mod polled_line;
 mod poller;

@@ -1,4 +1,4 @@
-ghost use Rattle.std.specs.Prelude.{◌≡◌, ◌+◌, ◌≤◌, ℕ, IfOk, length};
+ghost use Rattle.std.specs.Prelude.{◌≡◌, ◌+◌, ◌≤◌, ℕ, IfOk, IfSome, length, true};
 ghost use Rattle.tick_units.specs.Lane.{HasRoom};
 ghost use Rattle.site_types.specs.declared.site.Site.{Site as SiteOf};
 ghost use Rattle.site_types.specs.Valid.{IsValid};
@@ -8,31 +8,38 @@ ghost use Rattle.site_types.specs.Things.{loop_of};
 ghost use Rattle.loop_poller.specs.Points.{KnowsPoints};
 
 use crate::cables::cable_of;
+use crate::group::Group;
+use crate::groups::groups_of;
 use crate::points::points_of;
+use answer_lanes::Lane;
 use isolators::{LineStatus, LoopLine};
 use site_types::{Answer, Heard, PieceState, PointState, Site};
 use std::alloc::{AllocError, Global};
-use tick_units::{Lane, Tick};
+use tick_units::Tick;
 
 /// A loop of a panel: its cable, if the loop is there, and the point at each address.
 #[derive(Drop)]
 pub struct PolledLine {
     cable: Option<LoopLine>,
     points: Vec<Option<u16>>,
+    /// By (address - 1) / 8. There is none where the points don't follow one another in the site.
+    groups: Vec<Option<Group>>,
 }
 
 impl PolledLine {
     ghost use Rattle.loop_poller.specs.Puts.{PutsGroup};
-    ghost use Rattle.loop_poller.specs.Stands.{IsOnLoop, LineStands};
+    ghost use Rattle.loop_poller.specs.Stands.{IsOnLoop, IsQuietGroup, IsSoundLine, LineStands};
 
     pub fn new(alloc: Global, site: &Site, panel: u8, line: u8) -> Result<PolledLine, AllocError>
         requires { IsValid site.now }
         ensures { IfOk result (λ polled. LineStands site.now panel line sound_cable polled) }
     {
         let points = points_of(alloc, site, panel, line)?;
+        let groups = groups_of(alloc, &points)?;
         Ok(PolledLine {
             cable: cable_of(site, panel, line),
             points,
+            groups,
         })
     }
 
@@ -83,6 +90,24 @@ impl PolledLine {
         }
     }
 
+    fn is_sound(&self) -> bool
+        ensures { result ≡ true → IsSoundLine self.now }
+    {
+        let status = self.status();
+        !status.broken && !status.shorted
+    }
+
+    // The group that begins at an address, where its points are quiet and all reached.
+    fn quiet_group(&self, states: &[PointState], first: u8) -> Option<Group>
+        requires { 1 ≤ first }
+        ensures { IfSome result (λ group. IsQuietGroup self.now states.now first group) }
+    {
+        match self.groups.get((first as usize - 1) / 8) {
+            Some(Some(group)) if self.is_sound() && group.is_quiet(states) => Some(*group),
+            _ => None,
+        }
+    }
+
     /// Puts the answers of eight addresses, from the first one on.
     pub fn ask(&self, states: &[PointState], first: u8, now: Tick, answers: &mut Lane<Answer>)
         requires room { HasRoom answers.old 8 }
@@ -93,6 +118,10 @@ impl PolledLine {
         ensures put { PutsGroup self.now states.now first now.0 answers.old answers.new }
     {
         if self.cable.is_none() {
+            return;
+        }
+        if let Some(group) = self.quiet_group(states, first) {
+            answers.put_run(group.quiet_answers(now));
             return;
         }
         for address in first..first + 8 {

@@ -7,10 +7,11 @@ ghost use Rattle.site_types.specs.Things.{loop_of};
 ghost use Rattle.loop_poller.specs.Calls.{Call, Reported, Cabled, told_cable};
 
 use crate::polled_line::PolledLine;
+use answer_lanes::Lane;
 use isolators::LineStatus;
 use site_types::{Answer, PieceState, PointState, Profile, Site};
 use std::alloc::Global;
-use tick_units::{Lane, NoMemory, Tick};
+use tick_units::{NoMemory, Tick};
 
 /// Asks the points of a panel, eight addresses of each loop in a tick.
 #[derive(Drop)]

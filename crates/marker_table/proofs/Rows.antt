@@ -1,9 +1,11 @@
 -- What a row of the table makes of a marker is its equation.
-use Rattle.std.proofs.Common.{◌≡◌, ◌≤◌, ◌<◌, ◌+◌, ◌-◌, ◌*◌, ◌/◌, ◌%◌, ◌&&◌, ◌||◌, ℕ, zero, suc, Bool, false, List, [], ◌∷◌, Some, None, map, length, refl, sym, ap, ◌∙◌, arith, if◌then◌else◌}
-use Rattle.std.specs.Prelude.{slice_get, slice_index_or, nat_le, nat_lt, count_by}
+use Rattle.std.proofs.Common.{◌≡◌, ◌≤◌, ◌<◌, ◌+◌, ◌-◌, ◌*◌, ◌/◌, ◌%◌, ◌&&◌, ◌||◌, ◌++◌, ℕ, zero, suc, Bool, true}
+use Rattle.std.proofs.Common.{false, List, [], ◌∷◌, Some, None, map, length, take, get_or, refl, sym, ap, subst, ◌∙◌, arith, if◌then◌else◌}
+use Rattle.std.specs.Prelude.{slice_get, slice_index_or, slice_set, nat_le, count_by, sum_by}
 use Rattle.std.specs.List.{list_all, list_any}
 use Rattle.std.proofs.lemmas.Bool.Decides.{nat_tests}
-use Rattle.std.proofs.lemmas.List.Sums.{sum_by-cons}
+use Rattle.std.proofs.lemmas.List.Sums.{sum_by-cons, sum_by-set, sum_by_more, sum_by-take-le}
+use Rattle.std.proofs.lemmas.Option.{get_or_from_slice_get}
 use Rattle.site_types.specs.Bits.{has_bit}
 use Rattle.site_types.specs.Valid.{IsValid, IsTerm}
 use Rattle.site_types.specs.declared.site.Site.{Site}
@@ -14,10 +16,13 @@ use Rattle.site_types.specs.declared.term.Term.{Term}
 use Rattle.site_types.specs.declared.term.Term.TheVariants.{Zone as ZoneTerm, Manual as ManualTerm, Fault as FaultTerm, Marker as MarkerTerm}
 use Rattle.site_types.proofs.ValidSites.{zone_numbers, term_of_marker}
 use Rattle.marker_table.specs.declared.facts.Facts.{Facts}
+use Rattle.marker_table.specs.declared.input.Input.{Input}
+use Rattle.marker_table.specs.declared.mask.Mask.{Mask}
 use Rattle.marker_table.specs.declared.row.Row.{Row}
 use Rattle.marker_table.specs.declared.table.MarkerTable.{MarkerTable}
-use Rattle.marker_table.specs.Equations.{zone_bit, holds, is_met, equation}
-use Rattle.marker_table.specs.Table.{zone_index, input_of, reads, row_of, IsTableOf}
+use Rattle.marker_table.specs.declared.values.Values.{Values}
+use Rattle.marker_table.specs.Equations.{zone_bit, holds, is_met, equation, values_of}
+use Rattle.marker_table.specs.Table.{zone_index, input_of, reads, count_in, one_if, needed_of, AddsInputAt, CountsMore, IsRowOf, AreRowsOf, IsTableOf}
 
 -- ---- what is read where a term looks
 
@@ -43,31 +48,20 @@ zone_there site valid masks place within =
     let n = zone_numbers site valid place at.0 at.1 in
     rw at.1 (bit_there masks at.0.panel at.0.number n.0 n.2 n.3)
 
-panel_there : (n : ℕ) (bit : Bool) → n < 8 → (nat_lt n 8 && bit) ≡ bit
-panel_there n bit less = grind (arith, nat_tests, less)
-
-pub reads_input : (site : Site) → IsValid site → (facts : Facts) (values : ℕ → Bool) (term : Term) → IsTerm site term →
-    reads facts values (input_of site term) ≡ holds site facts values term
+pub reads_input : (site : Site) → IsValid site → (facts : Facts) (values : Values) (term : Term) → IsTerm site term →
+    reads facts values (input_of site term) ≡ holds site facts (values_of values) term
 reads_input site valid facts values (ZoneTerm place) is = zone_there site valid facts.zones place is
 reads_input site valid facts values (ManualTerm place) is = zone_there site valid facts.manual place is
-reads_input site valid facts values (FaultTerm panel) is = let most = valid.forms.panels.1 in
-    panel_there (panel - 1) (has_bit facts.faults (panel - 1)) (omega (arith, is, most))
+reads_input site valid facts values (FaultTerm panel) is =
+    let most = valid.forms.panels.1 in
+    let low : (panel - 1) % 32 ≡ panel - 1 = omega (arith, is, most) in
+    ap (has_bit facts.faults) low
 reads_input site valid facts values (MarkerTerm other) is = refl
 
--- ---- over a list that is made from another
+-- ---- enough of a list
 
-abbrev pub AgreeOn : {X Y : Type 0} → (X → Y) → (Y → Bool) → (X → Bool) → List X → Type 0
+abbrev AgreeOn : {X Y : Type 0} → (X → Y) → (Y → Bool) → (X → Bool) → List X → Type 0
 AgreeOn {X} f p q xs = (k : ℕ) (x : X) → slice_get xs k ≡ Some x → p (f x) ≡ q x
-
-all_map : {X Y : Type 0} (f : X → Y) (p : Y → Bool) (q : X → Bool) (xs : List X) → AgreeOn f p q xs → list_all p (map f xs) ≡ list_all q xs
-all_map f p q [] same = refl
-all_map f p q (x ∷ xs) same =
-    ap (λ b. b && list_all p (map f xs)) (same 0 x refl) ∙ ap (λ b. q x && b) (all_map f p q xs (λ k y at. same (suc k) y at))
-
-any_map : {X Y : Type 0} (f : X → Y) (p : Y → Bool) (q : X → Bool) (xs : List X) → AgreeOn f p q xs → list_any p (map f xs) ≡ list_any q xs
-any_map f p q [] same = refl
-any_map f p q (x ∷ xs) same =
-    ap (λ b. b || list_any p (map f xs)) (same 0 x refl) ∙ ap (λ b. q x || b) (any_map f p q xs (λ k y at. same (suc k) y at))
 
 count_map : {X Y : Type 0} (f : X → Y) (p : Y → Bool) (q : X → Bool) (xs : List X) → AgreeOn f p q xs → count_by p (map f xs) ≡ count_by q xs
 count_map f p q [] same = refl
@@ -77,41 +71,111 @@ count_map f p q (x ∷ xs) same =
     (ap (λ n. (if q x then 1 else 0) + n) (count_map f p q xs (λ k y at. same (suc k) y at)) ∙
     sym (sum_by-cons (λ y. if q y then 1 else 0) x xs)))
 
-pub met_map : {X Y : Type 0} (combine : Combine) (f : X → Y) (p : Y → Bool) (q : X → Bool) (xs : List X) → AgreeOn f p q xs
-    → is_met combine p (map f xs) ≡ is_met combine q xs
-met_map AllOf f p q xs same = all_map f p q xs same
-met_map Any f p q xs same = any_map f p q xs same
-met_map (AtLeast needed) f p q xs same = ap (nat_le needed) (count_map f p q xs same)
+count_cons : {X : Type 0} (p : X → Bool) (x : X) (xs : List X) → count_by p (x ∷ xs) ≡ one_if (p x) + count_by p xs
+count_cons p x xs = sum_by-cons (λ y. if p y then 1 else 0) x xs
+
+one_more_at_most : (b : Bool) (n count : ℕ) → count ≤ n → one_if b + count ≤ suc n
+one_more_at_most true n count le = omega (arith, le)
+one_more_at_most false n count le = omega (arith, le)
+
+count_at_most : {X : Type 0} (p : X → Bool) (xs : List X) → count_by p xs ≤ length xs
+count_at_most p [] = omega arith
+count_at_most p (x ∷ xs) =
+    let more = one_more_at_most (p x) (length xs) (count_by p xs) (count_at_most p xs) in
+    let counted = count_cons p x xs in
+    omega (arith, more, counted)
+
+all_step : (b rest : Bool) (n count : ℕ) → rest ≡ nat_le n count → count ≤ n → (b && rest) ≡ nat_le (suc n) (one_if b + count)
+all_step true rest n count is le = grind (arith, nat_tests, is)
+all_step false rest n count is le = grind (arith, nat_tests, le)
+
+any_step : (b rest : Bool) (count : ℕ) → rest ≡ nat_le 1 count → (b || rest) ≡ nat_le 1 (one_if b + count)
+any_step true rest count is = grind (arith, nat_tests)
+any_step false rest count is = grind (arith, nat_tests, is)
+
+-- that all of a list pass a test, or any, or at least so many, is told by how many do
+all_counted : {X : Type 0} (p : X → Bool) (xs : List X) → list_all p xs ≡ nat_le (length xs) (count_by p xs)
+all_counted p [] = refl
+all_counted p (x ∷ xs) =
+    all_step (p x) (list_all p xs) (length xs) (count_by p xs) (all_counted p xs) (count_at_most p xs) ∙
+    ap (nat_le (suc (length xs))) (sym (count_cons p x xs))
+
+any_counted : {X : Type 0} (p : X → Bool) (xs : List X) → list_any p xs ≡ nat_le 1 (count_by p xs)
+any_counted p [] = refl
+any_counted p (x ∷ xs) = any_step (p x) (list_any p xs) (count_by p xs) (any_counted p xs) ∙ ap (nat_le 1) (sym (count_cons p x xs))
+
+met_counted : {X : Type 0} (combine : Combine) (p : X → Bool) (xs : List X)
+    → nat_le (needed_of combine (length xs)) (count_by p xs) ≡ is_met combine p xs
+met_counted AllOf p xs = sym (all_counted p xs)
+met_counted Any p xs = sym (any_counted p xs)
+met_counted (AtLeast needed) p xs = refl
+
+-- where the masks so far have enough, all of them do
+pub met_early : (needed left count k : ℕ) (counts : Mask → ℕ) (masks : List Mask) (mask : Mask) → left + sum_by counts (take k masks) ≡ needed →
+    left ≤ count → count ≡ counts (get_or masks k mask) → k < length masks → true ≡ nat_le needed (sum_by counts masks)
+met_early needed left count k counts masks mask known enough is less =
+    let more = sum_by_more counts masks k mask less in
+    let most = sum_by-take-le counts masks (k + 1) in
+    let le : needed ≤ sum_by counts masks = omega (arith, known, enough, is, more, most) in
+    grind (arith, nat_tests, le)
 
 -- ---- the row of a marker
 
-made_from : {X Y : Type 0} (f : X → Y) (xs : List X) (k : ℕ) (y : Y) → slice_get (map f xs) k ≡ Some y → (x : X) × (slice_get xs k ≡ Some x)
-    × (y ≡ f x)
-made_from f [] k y at = cc
-made_from f (x ∷ xs) zero y at = (x, refl, cc)
-made_from f (x ∷ xs) (suc k) y at = made_from f xs k y at
+-- one mask takes an input more
+pub replaced : (input : Input) (masks : List Mask) (place : ℕ) (more : Mask) → AddsInputAt input masks (place, more)
+    → CountsMore input masks (slice_set masks place more)
+replaced input masks place more adds facts values =
+    let old = item_at masks place adds.0 in
+    let one = adds.1 old.0 old.1 facts values in
+    let moved = sum_by-set (count_in facts values) masks place more old.0 adds.0 in
+    let here = ap (count_in facts values) (get_or_from_slice_get masks place old.0 old.0 old.1) in
+    omega (arith, one, moved, here)
 
-none_made : {X Y : Type 0} (f : X → Y) (xs : List X) (k : ℕ) → slice_get (map f xs) k ≡ None → slice_get xs k ≡ None
-none_made f [] k at = refl
-none_made f (x ∷ xs) zero at = cc
-none_made f (x ∷ xs) (suc k) at = none_made f xs k at
+-- a row for each marker, and one more
+pub row_pushed : (site : Site) (markers : List Marker) (rows : List Row) (marker : Marker) (row : Row) → AreRowsOf site markers rows
+    → IsRowOf site marker row → AreRowsOf site (markers ++ marker ∷ []) (rows ++ row ∷ [])
+row_pushed site [] [] marker row are is = (is, tt)
+row_pushed site [] (_ ∷ rows) marker row are is = absurd are
+row_pushed site (_ ∷ markers) [] marker row are is = absurd are
+row_pushed site (first ∷ markers) (head ∷ rows) marker row are is = (are.0, row_pushed site markers rows marker row are.1 is)
 
-same_row : (site : Site) (facts : Facts) (values : ℕ → Bool) (m : ℕ) (row : Row) (marker : Marker) → IsValid site
-    → slice_get site.markers m ≡ Some marker → row ≡ row_of site marker →
-    is_met row.combine (reads facts values) row.inputs ≡ equation site facts values m
+row_at : (site : Site) (markers : List Marker) (rows : List Row) (m : ℕ) (row : Row) → AreRowsOf site markers rows → slice_get rows m ≡ Some row
+    → (marker : Marker) × (slice_get markers m ≡ Some marker) × IsRowOf site marker row
+row_at site [] [] m row are at = cc
+row_at site [] (_ ∷ rows) m row are at = absurd are
+row_at site (_ ∷ markers) [] m row are at = absurd are
+row_at site (marker ∷ markers) (head ∷ rows) zero row are at = (marker, refl, same head row at are.0)
+  where
+    same : (head row : Row) → Some head ≡ Some row → IsRowOf site marker head → IsRowOf site marker row
+    same head row e is = let equal : head ≡ row = cc in subst (IsRowOf site marker) equal is
+row_at site (marker ∷ markers) (head ∷ rows) (suc m) row are at = row_at site markers rows m row are.1 at
+
+none_at : (site : Site) (markers : List Marker) (rows : List Row) (m : ℕ) → AreRowsOf site markers rows → slice_get rows m ≡ None
+    → slice_get markers m ≡ None
+none_at site [] [] m are at = refl
+none_at site [] (_ ∷ rows) m are at = absurd are
+none_at site (_ ∷ markers) [] m are at = absurd are
+none_at site (marker ∷ markers) (head ∷ rows) zero are at = cc
+none_at site (marker ∷ markers) (head ∷ rows) (suc m) are at = none_at site markers rows m are.1 at
+
+same_row : (site : Site) (facts : Facts) (values : Values) (m : ℕ) (row : Row) (marker : Marker) → IsValid site
+    → slice_get site.markers m ≡ Some marker → IsRowOf site marker row →
+    nat_le row.needed (sum_by (count_in facts values) row.masks) ≡ equation site facts (values_of values) m
 same_row site facts values m row marker valid at is =
-    rw (is, at) (met_map marker.combine (input_of site) (reads facts values) (holds site facts values) marker.terms
-    (λ k term has. reads_input site valid facts values term (term_of_marker site valid m marker k term at has)))
+    let holds_here = holds site facts (values_of values) in
+    let counted = is.counted facts values ∙ count_map (input_of site) (reads facts values) holds_here marker.terms
+    (λ k term has. reads_input site valid facts values term (term_of_marker site valid m marker k term at has)) in
+    ap (λ n. nat_le n (sum_by (count_in facts values) row.masks)) is.needed ∙
+    (ap (nat_le (needed_of marker.combine (length marker.terms))) counted ∙
+    (met_counted marker.combine holds_here marker.terms ∙ rw at refl))
 
-pub row_met : (site : Site) (table : MarkerTable) (facts : Facts) (values : ℕ → Bool) (m : ℕ) (row : Row) → IsTableOf site table
+pub row_met : (site : Site) (table : MarkerTable) (facts : Facts) (values : Values) (m : ℕ) (row : Row) → IsTableOf site table
     → slice_get table.rows m ≡ Some row →
-    is_met row.combine (reads facts values) row.inputs ≡ equation site facts values m
+    nat_le row.needed (sum_by (count_in facts values) row.masks) ≡ equation site facts (values_of values) m
 row_met site table facts values m row is at =
-    let made = made_from (row_of site) site.markers m row (ap (λ rows. slice_get rows m) (sym is.rows) ∙ at) in
-    same_row site facts values m row made.0 is.valid made.1 made.2
+    let found = row_at site site.markers table.rows m row is.rows at in
+    same_row site facts values m row found.0 is.valid found.1 found.2
 
 pub no_row : (site : Site) (table : MarkerTable) (facts : Facts) (values : ℕ → Bool) (m : ℕ) → IsTableOf site table → slice_get table.rows m ≡ None →
     false ≡ equation site facts values m
-no_row site table facts values m is at =
-    let none = none_made (row_of site) site.markers m (ap (λ rows. slice_get rows m) (sym is.rows) ∙ at) in
-    rw none refl
+no_row site table facts values m is at = rw (none_at site site.markers table.rows m is.rows at) refl

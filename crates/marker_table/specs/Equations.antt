@@ -1,6 +1,6 @@
 -- What its terms make of a marker.
-use Rattle.std.specs.Prelude.{ℕ, ◌-◌, Bool, false, List, Option, Some, None, slice_get, slice_index_or, nat_le}
-use Rattle.std.specs.Prelude.{count_by}
+use Rattle.std.specs.Prelude.{ℕ, ◌-◌, ◌/◌, ◌%◌, Bool, false, List, Option, Some, None, slice_get, slice_index_or}
+use Rattle.std.specs.Prelude.{nat_le, count_by}
 use Rattle.std.specs.List.{list_all, list_any}
 use Rattle.site_types.specs.Bits.{has_bit}
 use Rattle.site_types.specs.declared.site.Site.{Site}
@@ -15,7 +15,7 @@ use Rattle.marker_table.specs.declared.values.Values.{Values}
 
 -- which markers are true, by their places
 abbrev pub values_of : Values → ℕ → Bool
-values_of values m = slice_index_or values.marker m false
+values_of values m = has_bit (slice_index_or values.words (m / 32) 0) (m % 32)
 
 -- the bit of a zone, in masks that are one for each panel
 abbrev pub zone_bit : List ℕ → Option Zone → Bool

@@ -1,11 +1,10 @@
 ghost use Rattle.std.specs.Prelude.{◌≡◌, ◌≤◌, ◌+◌, ◌-◌, ◌*◌};
 ghost use Rattle.site_types.specs.Valid.{IsTerm, IsValid};
-ghost use Rattle.marker_table.specs.Equations.{values_of};
-ghost use Rattle.marker_table.specs.Table.{input_of, reads};
+ghost use Rattle.marker_table.specs.Table.{input_bit, input_of, is_same_word, input_word};
 
 use crate::facts::Facts;
 use crate::values::Values;
-use site_types::{Site, Term, Zone, has_bit_8, has_bit_32};
+use site_types::{Site, Term, Zone};
 
 /// What a term looks at: one bit of the facts, or a marker.
 #[derive(Clone, Copy, Debug, PartialEq, Eq)]
@@ -35,15 +34,40 @@ impl Input {
         }
     }
 
-    // Whether it is true.
-    pub(crate) fn holds(self, facts: &Facts, values: &Values) -> bool
-        ensures { result ≡ reads facts.now (values_of values.now) self }
+    // The word of 32 zones, call points, panels or markers in which it lies.
+    pub(crate) fn word(self, facts: &Facts, values: &Values) -> u32
+        ensures { result ≡ input_word facts.now values.now self }
     {
         match self {
-            Input::Zone(place) => has_bit_32(facts.zones[place as usize / 32], place % 32),
-            Input::Manual(place) => has_bit_32(facts.manual[place as usize / 32], place % 32),
-            Input::Fault(place) => place < 8 && has_bit_8(facts.faults, place),
-            Input::Marker(place) => values.marker[place as usize],
+            Input::Zone(place) => facts.zones[place as usize / 32],
+            Input::Manual(place) => facts.manual[place as usize / 32],
+            Input::Fault(_) => facts.faults as u32,
+            Input::Marker(place) => values.words[place as usize / 32],
+        }
+    }
+
+    // Its bit in that word.
+    pub(crate) fn bit(self) -> u8
+        ensures { result ≡ input_bit self }
+    {
+        match self {
+            Input::Zone(place)
+            | Input::Manual(place)
+            | Input::Fault(place)
+            | Input::Marker(place) => place % 32,
+        }
+    }
+
+    // Whether another one lies in the same word.
+    pub(crate) fn is_with(self, other: Input) -> bool
+        ensures { result ≡ is_same_word self other }
+    {
+        match (self, other) {
+            (Input::Zone(a), Input::Zone(b))
+            | (Input::Manual(a), Input::Manual(b))
+            | (Input::Marker(a), Input::Marker(b)) => a / 32 == b / 32,
+            (Input::Fault(_), Input::Fault(_)) => true,
+            _ => false,
         }
     }
 }

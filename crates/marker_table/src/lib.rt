@@ -7,12 +7,14 @@
 //! bytes ([`Steps`]), and nothing else raises that counter: a contract that names the counter says how many
 //! markers were evaluated.
 //!
-//! [`MarkerTable::new`] alone takes memory, two bytes for each term. An evaluation looks at the marker's
-//! terms, at most 64.
+//! [`MarkerTable::new`] alone takes memory: eight bytes, rounded up by the growing of a list, for each word of 32
+//! zones, call points, faults or markers in which a marker has terms, and for each time that a term stands again.
+//! An evaluation looks at each of these words once, and at none after enough terms hold.
 #![tactic(auto)]
 
 mod facts;
 mod input;
+mod mask;
 mod row;
 mod steps;
 mod table;

@@ -1,21 +1,21 @@
-ghost use Rattle.std.specs.Prelude.{◌≡◌, All, IfOk, count_by};
-ghost use Rattle.std.specs.List.{list_all, list_any};
+ghost use Rattle.std.specs.Prelude.{◌≡◌, ◌<◌, All, IfOk, IfSome, length, nat_le, slice_index_or, sum_by};
 ghost use Rattle.site_types.specs.Valid.{IsTerm, IsValid};
-ghost use Rattle.marker_table.specs.Equations.{is_met as meets, values_of};
-ghost use Rattle.marker_table.specs.Table.{reads, row_of};
+ghost use Rattle.marker_table.specs.Table.{AddsInputAt, CountsMore, IsRowOf, count_in, needed_of};
 
 use crate::facts::Facts;
 use crate::input::Input;
+use crate::mask::Mask;
 use crate::values::Values;
 use site_types::{Combine, Marker, Site};
 use std::alloc::Global;
 use tick_units::{Items, NoMemory};
 
-/// What a marker looks at, and how that is combined.
+/// What a marker looks at, and how much of that has to be true.
 #[derive(Drop)]
 pub(crate) struct Row {
-    combine: Combine,
-    inputs: Items<Input>,
+    needed: usize,
+    // A term that stands twice is in two of the masks.
+    masks: Items<Mask>,
 }
 
 impl Row {
@@ -23,49 +23,65 @@ impl Row {
     pub(crate) fn of(alloc: Global, site: &Site, marker: &Marker) -> Result<Row, NoMemory>
         requires valid { IsValid site.now }
         requires terms { All (IsTerm site.now) marker.now.terms }
-        ensures { IfOk result (λ row. row ≡ row_of site.now marker.now) }
+        ensures { IfOk result (IsRowOf site.now marker.now) }
     {
-        let mut inputs = Vec::with_capacity(alloc, marker.terms.len())?;
+        let mut masks = Vec::new(alloc);
         for term in marker.terms.as_slice() {
-            inputs.push(Input::of(site, *term))?;
+            add(&mut masks, Input::of(site, *term))?;
         }
         Ok(Row {
-            combine: marker.combine,
-            inputs: Items::from_vec(inputs),
+            needed: needed_for(marker.combine, marker.terms.len()),
+            masks: Items::from_vec(masks),
         })
     }
 
     // Whether enough of what it looks at is true.
     pub(crate) fn is_met(&self, facts: &Facts, values: &Values) -> bool
-        ensures { result ≡ meets self.now.combine (reads facts.now (values_of values.now))
-            self.now.inputs }
+        ensures { result ≡ nat_le self.now.needed (sum_by (count_in facts.now values.now)
+            self.now.masks) }
     {
-        let inputs = self.inputs.as_slice();
-        match self.combine {
-            Combine::All => all_hold(inputs, facts, values),
-            Combine::Any => any_holds(inputs, facts, values),
-            Combine::AtLeast(needed) => count_true(inputs, facts, values) >= needed as usize,
+        let mut left = self.needed;
+        for mask in self.masks.as_slice() {
+            let count = mask.count(facts, values) as usize;
+            if count >= left {
+                return true;
+            }
+            left -= count;
         }
+        left == 0
     }
 }
 
-fn all_hold(inputs: &[Input], facts: &Facts, values: &Values) -> bool
-    ensures { result ≡ list_all (reads facts.now (values_of values.now)) inputs.now }
+// How many of so many terms have to hold.
+fn needed_for(combine: Combine, terms: usize) -> usize
+    ensures { result ≡ needed_of combine terms }
 {
-    inputs.iter().all(|input| input.holds(facts, values))
+    match combine {
+        Combine::All => terms,
+        Combine::Any => 1,
+        Combine::AtLeast(needed) => needed as usize,
+    }
 }
 
-fn any_holds(inputs: &[Input], facts: &Facts, values: &Values) -> bool
-    ensures { result ≡ list_any (reads facts.now (values_of values.now)) inputs.now }
+// Adds what a term looks at.
+fn add(masks: &mut Vec<Mask>, input: Input) -> Result<(), NoMemory>
+    ensures { IfOk result (λ _. CountsMore input masks.old.items masks.new.items) }
 {
-    inputs.iter().any(|input| input.holds(facts, values))
+    match joined(masks.as_slice(), input) {
+        Some((place, mask)) => masks[place] = mask,
+        None => masks.push(Mask::of(input))?,
+    }
+    Ok(())
 }
 
-fn count_true(inputs: &[Input], facts: &Facts, values: &Values) -> usize
-    ensures { result ≡ count_by (reads facts.now (values_of values.now)) inputs.now }
+// The first mask that takes an input, and what it is then.
+fn joined(masks: &[Mask], input: Input) -> Option<(usize, Mask)>
+    ensures { IfSome result (AddsInputAt input masks.now) }
 {
-    inputs
-        .iter()
-        .filter(|input| input.holds(facts, values))
-        .count()
+    for (place, mask) in masks.iter().enumerate() {
+        if let Some(more) = mask.with(input) {
+            return Some((place, more));
+        }
+    }
+    None
 }

@@ -1,29 +1,50 @@
-ghost use Rattle.std.specs.Prelude.{◌≡◌, replicate, false};
+ghost use Rattle.std.specs.Prelude.{◌≡◌, ◌≢◌, ◌||◌, ℕ, false};
 ghost use Rattle.marker_table.specs.Equations.{values_of};
+
+use site_types::{has_bit_32, with_bit_32};
 
 /// Which markers are true, by their places in the site.
 #[derive(Clone, Copy, Debug, PartialEq, Eq)]
 pub struct Values {
-    pub marker: [bool; 256],
+    // 32 markers each, the first one bit 0.
+    pub(crate) words: [u32; 8],
 }
 
 impl Values {
     /// No marker is true.
     pub fn none() -> Values
-        ensures { result.marker ≡ replicate 256 false }
+        ensures { (marker : ℕ) → values_of result marker ≡ false }
     {
-        Values {
-            marker: [false; 256],
-        }
+        Values { words: [0; 8] }
     }
 
     /// Whether the marker at a place is true; a place past the last is false.
     pub fn is_true(&self, marker: u16) -> bool
         ensures { result ≡ values_of self.now marker }
     {
-        match self.marker.get(marker as usize) {
-            Some(value) => *value,
+        match self.words.get(marker as usize / 32) {
+            Some(word) => has_bit_32(*word, (marker % 32) as u8),
             None => false,
+        }
+    }
+
+    /// Makes the marker at a place true or false.
+    pub fn set(&mut self, marker: u8, value: bool)
+        ensures this { values_of self.new marker ≡ value }
+        ensures others { (other : ℕ) → other ≢ marker
+            → values_of self.new other ≡ values_of self.old other }
+    {
+        let word = marker as usize / 32;
+        self.words[word] = with_bit_32(self.words[word], marker % 32, value);
+    }
+
+    /// Makes each marker true that is true in other values.
+    pub fn join(&mut self, other: &Values)
+        ensures { (marker : ℕ) → values_of self.new marker
+            ≡ (values_of self.old marker || values_of other.now marker) }
+    {
+        for place in 0..8 {
+            self.words[place] |= other.words[place];
         }
     }
 }

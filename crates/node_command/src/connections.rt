@@ -16,7 +16,7 @@ use node_desk::NodeDesk;
 use panel_edges::{Disk, Failed};
 use serving_ends::ServingEnd;
 
-/// Starts the door at a port, and serves.
+/// Starts the door at a port, and serves so many connections, or until the door fails.
 pub(crate) fn serve<G: Door, D: Disk>(
     desk: &mut NodeDesk,
     port: u16,
@@ -34,48 +34,17 @@ pub(crate) fn serve<G: Door, D: Disk>(
     ensures disk { KeepsOn D.honest D.images D.faults disk.old disk.new desk.old.run desk.new.run }
     ensures cause { BlamesDoor (G.faults door.old) (G.faults door.new) result }
 {
-    match door.start(port) {
-        Ok(()) => serve_all(desk, count, door, disk),
-        Err(Failed) => ServingEnd {
-            served: 0,
-            failed: true,
-        },
-    }
-}
-
-// Serves so many connections, or until the door fails.
-fn serve_all<G: Door, D: Disk>(
-    desk: &mut NodeDesk,
-    count: u32,
-    door: &mut G,
-    disk: &mut D,
-) -> ServingEnd
-    requires opened { IsOpened desk.old.run }
-    requires count { IsCount count }
-    requires out { G.is_out door.old ≡ false }
-    requires stands { StandsOn D.honest D.images disk.old desk.old.run.journal }
-    ensures serves { HasServedAll
-        (disks_of D.honest D.images D.moment D.left_since disk.old disk.new)
-        (door_sides G.waiting G.handed door.old door.new) count desk.old.run desk.new.run result }
-    ensures disk { KeepsOn D.honest D.images D.faults disk.old disk.new desk.old.run desk.new.run }
-    ensures cause { BlamesDoor (G.faults door.old) (G.faults door.new) result }
-{
+    let Ok(()) = door.start(port) else {
+        return ServingEnd::at_door(0);
+    };
     let mut served = 0;
     while served < count {
         match serve_next(desk, door, disk) {
             Ok(_) => served += 1,
-            Err(Failed) => {
-                return ServingEnd {
-                    served,
-                    failed: true,
-                };
-            }
+            Err(Failed) => return ServingEnd::at_door(served),
         }
     }
-    ServingEnd {
-        served,
-        failed: false,
-    }
+    ServingEnd::whole(served)
 }
 
 // Serves the next connection and hands it back.

@@ -2,7 +2,7 @@
 
 ghost use Rattle.std.specs.Prelude.{◌≡◌, ◌≢◌, ◌≤◌, false};
 ghost use Rattle.desk_doors.specs.Passing.{door_sides};
-ghost use Rattle.node_command.specs.Serving.{AnswersNode, ServesPanelFrom, ServesPanelIf, ServesPanelOver};
+ghost use Rattle.node_command.specs.Serving.{AnswersNode, ServesPanelFrom, ServesPanelOver};
 ghost use Rattle.panel_parts.specs.Stands.{HasPlan};
 ghost use Rattle.panel_edges.specs.Faults.{Rose};
 ghost use Rattle.panel_rules.specs.Moments.{IsPanel};
@@ -10,7 +10,7 @@ ghost use Rattle.program_status.specs.Statuses.{BlamesDisk, BlamesReads, BlamesW
 ghost use Rattle.program_status.specs.Statuses.{IsSilentWithoutMemory};
 ghost use Rattle.program_status.specs.Statuses.{number_of};
 ghost use Rattle.retained_journal.specs.Images.{Stands as StandsOn};
-ghost use Rattle.serving_ends.specs.Ends.{BlamesStores, IsCount};
+ghost use Rattle.serving_ends.specs.Ends.{BlamesServing, BlamesStores, IsCount};
 ghost use Rattle.site_commands.specs.Files.{files_of};
 ghost use Rattle.site_commands.specs.Sites.{IsLoaded};
 ghost use Rattle.site_run.specs.Journals.{IsOpenFor};
@@ -62,42 +62,14 @@ pub fn serve_node<F: Shelf, K: Sink, D: Disk, G: Door>(
         → Rose (G.faults door.old) (G.faults door.new) }
 {
     match load(alloc, name, shelf) {
-        Ok(loaded) => serve_panel(alloc, loaded, panel, port, count, out, disk, door),
+        Ok(loaded) => {
+            if panel > loaded.site.panels {
+                tell_usage(out)
+            } else {
+                serve_loaded(alloc, loaded, panel, port, count, out, disk, door)
+            }
+        }
         Err(stop) => stop_with(&stop, out),
-    }
-}
-
-// Serves a panel of a site, where it has that panel.
-fn serve_panel<K: Sink, D: Disk, G: Door>(
-    alloc: Global,
-    loaded: Loaded,
-    panel: u8,
-    port: u16,
-    count: u32,
-    out: &mut K,
-    disk: &mut D,
-    door: &mut G,
-) -> Outcome
-    requires loaded { IsLoaded loaded }
-    requires panel { 1 ≤ panel }
-    requires count { IsCount count }
-    requires out { G.is_out door.old ≡ false }
-    ensures serves { ServesPanelIf loaded.site loaded.digest panel (disk_of D.seen D.honest
-        D.images D.moment D.left_since disk.old disk.new) (door_sides G.waiting G.handed
-        door.old door.new) count (K.written out.old) (K.written out.new) result }
-    ensures read { result.status ≢ number_of Status.ReadFault }
-    ensures write { BlamesWrites result (K.write_faults out.old) (K.write_faults out.new) }
-    ensures memory { IsSilentWithoutMemory result (K.written out.old) (K.written out.new) }
-    ensures before_door { result.status ≡ number_of Status.NoMemory → door.new ≡ door.old }
-    ensures disk { BlamesDisk result (D.faults disk.old) (D.faults disk.new) }
-    ensures stores { BlamesStores result (D.faults disk.old) (D.faults disk.new) }
-    ensures door { result.status ≡ number_of Status.DoorFault
-        → Rose (G.faults door.old) (G.faults door.new) }
-{
-    if panel > loaded.site.panels {
-        tell_usage(out)
-    } else {
-        serve_loaded(alloc, loaded, panel, port, count, out, disk, door)
     }
 }
 
@@ -123,16 +95,14 @@ fn serve_loaded<K: Sink, D: Disk, G: Door>(
     ensures write { BlamesWrites result (K.write_faults out.old) (K.write_faults out.new) }
     ensures memory { IsSilentWithoutMemory result (K.written out.old) (K.written out.new) }
     ensures before_door { result.status ≡ number_of Status.NoMemory → door.new ≡ door.old }
-    ensures disk { BlamesDisk result (D.faults disk.old) (D.faults disk.new) }
-    ensures stores { BlamesStores result (D.faults disk.old) (D.faults disk.new) }
-    ensures door { result.status ≡ number_of Status.DoorFault
-        → Rose (G.faults door.old) (G.faults door.new) }
+    ensures blames { BlamesServing result (D.faults disk.old) (D.faults disk.new)
+        (G.faults door.old) (G.faults door.new) }
 {
     let Loaded { site, plan, digest } = loaded;
     match Journal::open(disk, digest, site.format == 2) {
         Ok((journal, _)) => {
             serve_with(
-                alloc, site, plan, digest, panel, journal, port, count, out, disk, door,
+                alloc, site, plan, digest, panel, port, count, journal, out, disk, door,
             )
         }
         Err(refusal) => stop_at_journal(&refusal, out),
@@ -146,9 +116,9 @@ fn serve_with<K: Sink, D: Disk, G: Door>(
     plan: Plan,
     digest: [u8; 32],
     panel: u8,
-    journal: Journal,
     port: u16,
     count: u32,
+    journal: Journal,
     out: &mut K,
     disk: &mut D,
     door: &mut G,

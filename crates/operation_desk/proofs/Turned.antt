@@ -63,17 +63,15 @@ module _ (site : Site) (kept settings : Retained) (panel : ℕ) (before : List M
   abbrev tick : ℕ
   tick = tick_of before
 
-  abbrev start : Operations
-  start = operations site kept before
-
   abbrev own : List RequestOf
   own = mine site kept settings panel before old h m
 
   abbrev after : Operations
   after = operations site kept (Turned panel DeskTask ∷ before)
 
-  after_firsts : Operations
-  after_firsts = after_desk site kept (firsts_of panel old.asked.items) start
+  -- after those that the desk has, which are the first of the panel
+  abbrev after_firsts : Operations
+  after_firsts = after_desk site kept (firsts_of panel old.asked.items) (operations site kept before)
 
   panel_of_own : AllByRecursion (λ (r : RequestOf). (r.panel == panel) ≡ true) own
   panel_of_own =
@@ -99,28 +97,28 @@ module _ (site : Site) (kept settings : Retained) (panel : ℕ) (before : List M
       each_filtered (λ (r : RequestOf). nat_le most_operations r.earlier ≡ true) (λ r. not (is_first r)) own
       (λ k r is t. late_of (is_first r) r.earlier refl t)
 
-  split : after ≡ after_desk site kept (lates site kept settings panel before old h m) (after_desk site kept (firsts_of panel old.asked.items) start)
+  split : after ≡ after_desk site kept (lates site kept settings panel before old h m) after_firsts
   split =
-      ap (λ xs. after_desk site kept xs start) (mine_is site kept settings panel before old h m)
-      ∙ fold-append (after_request site kept) start (firsts_of panel old.asked.items) (lates site kept settings panel before old h m)
+      ap (λ xs. after_desk site kept xs (operations site kept before)) (mine_is site kept settings panel before old h m)
+      ∙ fold-append (after_request site kept) (operations site kept before) (firsts_of panel old.asked.items) (lates site kept settings panel before old h m)
 
-  same : (after.waiting ≡ (after_desk site kept (firsts_of panel old.asked.items) start).waiting)
-      × (after.done ≡ (after_desk site kept (firsts_of panel old.asked.items) start).done)
+  same : (after.waiting ≡ after_firsts.waiting)
+      × (after.done ≡ after_firsts.done)
       × (told_in site kept tick after.answers all
-      ≡ told_in site kept tick (after_desk site kept (firsts_of panel old.asked.items) start).answers all)
+      ≡ told_in site kept tick after_firsts.answers all)
   same =
       subst
-      (λ (o : Operations). (o.waiting ≡ (after_desk site kept (firsts_of panel old.asked.items) start).waiting)
-      × (o.done ≡ (after_desk site kept (firsts_of panel old.asked.items) start).done)
-      × (told_in site kept tick o.answers all ≡ told_in site kept tick (after_desk site kept (firsts_of panel old.asked.items) start).answers all))
+      (λ (o : Operations). (o.waiting ≡ after_firsts.waiting)
+      × (o.done ≡ after_firsts.done)
+      × (told_in site kept tick o.answers all ≡ told_in site kept tick after_firsts.answers all))
       (sym split)
-      (late_same site kept all tick (few_of_run site before tick) start own (firsts_of panel old.asked.items)
+      (late_same site kept all tick (few_of_run site before tick) (operations site kept before) own (firsts_of panel old.asked.items)
       (lates site kept settings panel before old h m) (mine_is site kept settings panel before old h m) (taken site kept settings panel before old h m)
       all_late)
 
   busy_of : (q : ℕ) → busy_count q (given_in site kept tick after.answers all)
-      ≡ count (λ (r : RequestOf). (r.panel == q) && nat_le most_operations r.earlier) own + busy_count q (given_in site kept tick start.answers all)
-  busy_of q = busy_all site kept all tick (few_of_run site before tick) start q own [] own refl (taken site kept settings panel before old h m)
+      ≡ count (λ (r : RequestOf). (r.panel == q) && nat_le most_operations r.earlier) own + busy_count q (given_in site kept tick (operations site kept before).answers all)
+  busy_of q = busy_all site kept all tick (few_of_run site before tick) (operations site kept before) q own [] own refl (taken site kept settings panel before old h m)
 
   own_busy : busy_count panel (given_in site kept tick after.answers all) ≡ length own - 4
   own_busy =
@@ -131,7 +129,7 @@ module _ (site : Site) (kept settings : Retained) (panel : ℕ) (before : List M
       let i = h.idle panel own_number m.run.1 in
       omega (arith, b, c, n, z, i)
 
-  other_busy : (q : ℕ) → panel ≢ q → busy_count q (given_in site kept tick after.answers all) ≡ busy_count q (given_in site kept tick start.answers all)
+  other_busy : (q : ℕ) → panel ≢ q → busy_count q (given_in site kept tick after.answers all) ≡ busy_count q (given_in site kept tick (operations site kept before).answers all)
   other_busy q apart =
       let b = busy_of q in
       let c = count_other panel q (λ (r : RequestOf). nat_le most_operations r.earlier) own apart panel_of_own in
@@ -140,7 +138,7 @@ module _ (site : Site) (kept settings : Retained) (panel : ℕ) (before : List M
   other_place : (q : ℕ) → IsPanelNumber q → panel ≢ q → (q - 1) ≢ (panel - 1)
   other_place q p apart e = apart (let o = own_number in omega (arith, e, o.0, p.0))
 
-  pub desk_turned : (mid new : Desk) → TellsOutcomes site kept all tick (after_desk site kept (firsts_of panel old.asked.items) start) mid
+  pub desk_turned : (mid new : Desk) → TellsOutcomes site kept all tick after_firsts mid
       → HasSameRest old mid
       → HasBusy (slice_set mid.answers.busy (panel - 1) (slice_index mid.counts (panel - 1) - 4)) mid new
       → DesksFor site kept (Turned panel DeskTask ∷ before) new

@@ -66,9 +66,6 @@ module _ (site : Site) (kept settings : Retained) (panel : ℕ) (before : List M
   abbrev tick : ℕ
   tick = tick_of before
 
-  abbrev start : Operations
-  start = operations site kept before
-
   abbrev pub mine : List RequestOf
   mine = requests_in panel tick all
 
@@ -85,7 +82,7 @@ module _ (site : Site) (kept settings : Retained) (panel : ℕ) (before : List M
   run_then : IsRun site.panels (Turned panel DeskTask ∷ before)
   run_then = m.run
 
-  pub taken : AreTaken site kept all tick (few_of_run site before tick) start mine
+  pub taken : AreTaken site kept all tick (few_of_run site before tick) (operations site kept before) mine
   taken = record {
     from = each_filtered (IsAsked all) (λ (r : RequestOf). (r.panel == panel) && (r.tick == tick)) all (λ k r is t. record { place = k; is = is });
     now =
@@ -126,11 +123,11 @@ module _ (site : Site) (kept settings : Retained) (panel : ℕ) (before : List M
         join (x ∷ xs) ys zs = ap (λ ws. x ∷ ws) (join xs ys zs)
 
     abbrev so_far : Operations
-    so_far = after_desk site kept (firsts_of panel (take n desk.asked.items)) start
+    so_far = after_desk site kept (firsts_of panel (take n desk.asked.items)) (operations site kept before)
 
-    next_is : IsNext site kept all tick (few_of_run site before tick) start (firsts_of panel (take n desk.asked.items)) (request_from request)
+    next_is : IsNext site kept all tick (few_of_run site before tick) (operations site kept before) (firsts_of panel (take n desk.asked.items)) (request_from request)
     next_is =
-        next site kept all tick (few_of_run site before tick) start mine (firsts_of panel (take n desk.asked.items))
+        next site kept all tick (few_of_run site before tick) (operations site kept before) mine (firsts_of panel (take n desk.asked.items))
         (firsts_of panel (drop (n + 1) desk.asked.items) ++ lates) (request_from request) whole taken
 
     is_among : {X : Type 0} (xs : List X) (k : ℕ) (f : Request → X) (ys : List Request) → xs ≡ map f ys → slice_get ys k ≡ Some request
@@ -172,7 +169,7 @@ module _ (site : Site) (kept settings : Retained) (panel : ℕ) (before : List M
       now = next_is.now;
       early = lt_from request.earlier most_operations (parts (request.tick.0 == tick) (nat_lt request.earlier most_operations) early).1;
       panel = panel_few;
-      in_force = λ setting known. m.in_force setting known ∙ sym (in_force_desk site kept setting tick (firsts_of panel (take n desk.asked.items)) start firsts_now);
+      in_force = λ setting known. m.in_force setting known ∙ sym (in_force_desk site kept setting tick (firsts_of panel (take n desk.asked.items)) (operations site kept before) firsts_now);
       unanswered = next_is.unanswered;
       few_told =
           few_told site kept all tick (few_of_run site before tick) (after_request site kept so_far (request_from request)) next_is.on;

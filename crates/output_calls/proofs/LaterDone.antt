@@ -80,7 +80,7 @@ module _ (site : Site) (facts : ℕ → List Moment → Facts) (new old : List D
   silence_later (Kept failed ∷ before) by = silence_later before by
 
 module _ (site : Site) (facts : ℕ → List Moment → Facts) (kept : Retained) (new old : List Done) (x : ℕ) (from : AreFrom x new) where
-  goes_later : (output : ℕ) (before : List Moment) → tick_of before ≤ x
+  pub goes_later : (output : ℕ) (before : List Moment) → tick_of before ≤ x
       → goes_on site facts kept (new ++ old) output before ≡ goes_on site facts kept old output before
   goes_later output before by =
       let panel = panel_of_output site output in

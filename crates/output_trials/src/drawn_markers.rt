@@ -152,7 +152,7 @@ fn change(plan: &Plan, before: &Facts, after: &Facts, values: &mut Values) {
 }
 
 fn is_true(values: &Values, place: usize) -> bool {
-    values.marker.get(place) == Some(&true)
+    values.is_true(place.min(u16::MAX as usize) as u16)
 }
 
 fn is_same(values: &Values, plain: &[bool]) -> bool {

@@ -11,7 +11,7 @@ use Rattle.site_types.specs.declared.site.Site.{Site}
 use Rattle.tick_units.specs.declared.tick.Tick.{Tick}
 use Rattle.site_types.specs.Bits.{has_bit, mask_of}
 use Rattle.site_types.specs.declared.operation.Operation.{Operation}
-use Rattle.site_types.proofs.Masks.{mask_same, has_bit-mask, has_bit-or, has_bit-above}
+use Rattle.site_types.proofs.Masks.{mask_from_bits, mask_same, has_bit-mask, has_bit-or, has_bit-above, has_bit-zero}
 use Rattle.site_types.proofs.Done.{lt_tells, lt_true, lt_false}
 use Rattle.coincidence_rules.specs.declared.finding.Finding.{Finding}
 use Rattle.tick_units.specs.declared.last_done.LastDone.{LastDone}
@@ -105,6 +105,22 @@ drawn_is tick now zones sign h le =
     one k small false true es ef = refl
     one k small false false es ef = sym (h.held sign k now small le es ef)
 
+or_left : (a b : Bool) → (a || b) ≡ false → (a ≡ false) × (b ≡ false)
+or_left false b h = (refl, h)
+or_left true b h = absurd (cc)
+
+-- where there is no zone to look at, a mask stays
+pub stays_drawn : (tick now : ℕ) (zones : Zones) (sign : Sign) → sign_mask sign zones.signs < 2 ^ 32 → bit_or zones.changed zones.signs.first ≡ 0
+    → Settled tick zones → tick ≤ now → sign_mask sign zones.signs ≡ sign_at sign now zones.watches.items
+stays_drawn tick now zones sign fits none h le =
+    mask_from_bits 32 (sign_mask sign zones.signs) (λ k. watch_shows sign now (slice_get zones.watches.items k)) fits
+    (λ k small. let off = calm k in sym (h.held sign k now small le off.0 off.1))
+  where
+    calm : (k : ℕ) → (has_bit zones.changed k ≡ false) × (has_bit zones.signs.first k ≡ false)
+    calm k =
+        or_left (has_bit zones.changed k) (has_bit zones.signs.first k)
+        (sym (has_bit-or zones.changed zones.signs.first k) ∙ ap (λ m. has_bit m k) none ∙ has_bit-zero k)
+
 pub settled_drawn : (tick now : ℕ) (zones after : Zones) → Settled tick zones → after.watches.items ≡ zones.watches.items → after.moved ≡ zones.moved
     → after.signs ≡ signs_at now zones.watches.items →
     after.changed ≡ (if nat_lt zones.moved.0 now then 0 else 2 ^ 32 - 1) → Settled now after
@@ -154,7 +170,7 @@ told_bits f k =
     ∙ ap (λ b. b || has_bit f.released k)
     (has_bit-or (bit_or f.counted f.confirmed) f.manual k ∙ ap (λ b. b || has_bit f.manual k) (has_bit-or f.counted f.confirmed k))
 
-untold : (f : Finding) (watch : ZoneWatch) → has_bit (told_by f) watch.bit ≡ false → zone_taken f watch ≡ watch
+pub untold : (f : Finding) (watch : ZoneWatch) → has_bit (told_by f) watch.bit ≡ false → zone_taken f watch ≡ watch
 untold f watch h =
     let off = or_off (has_bit f.counted watch.bit) (has_bit f.confirmed watch.bit) (has_bit f.manual watch.bit) (has_bit f.released watch.bit)
     (sym (told_bits f watch.bit) ∙ h) in
@@ -248,10 +264,6 @@ told_all k f j (Some watch) below past numbered = go (has_bit (told_by f) j) ref
         let no_way : true ≡ false = sym on ∙ off in cc)
 
 -- ---- what was held stays
-
-or_left : (a b : Bool) → (a || b) ≡ false → (a ≡ false) × (b ≡ false)
-or_left false b h = (refl, h)
-or_left true b h = absurd (cc)
 
 pub settled_more : (tick : ℕ) (f : Finding) (before after : Zones) → AreNumbered before.watches.items
     → ((k : ℕ) → slice_get after.watches.items k ≡ option_map (zone_taken f) (slice_get before.watches.items k)) →

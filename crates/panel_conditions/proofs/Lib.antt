@@ -14,6 +14,8 @@ pub mod Masked
 pub mod Drawn
 pub mod BeforeOperation
 pub mod Unchanged
+-- findings that stand in runs
+pub mod Runs
 -- the whole part: at first, and after a turn or an operation
 pub mod Firsts
 pub mod Turned

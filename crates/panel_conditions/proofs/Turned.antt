@@ -1,15 +1,13 @@
 -- The part that holds, after one more turn or operation, and at first.
-use Rattle.std.proofs.Common.{◌≡◌, ℕ, ◌+◌, ◌-◌, ◌<◌, ◌≤◌, ◌^◌, min, Bool, true, false, not, List, [], ◌∷◌, ◌++◌}
-use Rattle.std.proofs.Common.{length, take, get_or, append_assoc, ◌&&◌, nat_lt, if◌then◌else◌, refl, sym, ◌∙◌, ap}
+use Rattle.std.proofs.Common.{◌≡◌, ℕ, ◌+◌, ◌-◌, ◌<◌, ◌≤◌, ◌^◌, min, Bool, true, false, not, List, ◌∷◌, ◌++◌}
+use Rattle.std.proofs.Common.{◌&&◌, nat_lt, if◌then◌else◌, refl, sym, ◌∙◌, ap}
 use Rattle.std.proofs.Common.{subst, arith}
-use Rattle.std.proofs.lemmas.List.{take_more}
 use Rattle.tick_units.specs.declared.tick.Tick.{Tick}
 use Rattle.site_types.specs.declared.site.Site.{Site}
 use Rattle.site_types.specs.declared.retained.Retained.{Retained}
 use Rattle.site_types.specs.declared.fault_set.FaultSet.{FaultSet}
 use Rattle.site_types.specs.declared.word.Word.{Word}
 use Rattle.site_types.specs.Done.{Done, muted_before}
-use Rattle.coincidence_rules.specs.declared.finding.Finding.{Finding}
 use Rattle.panel_conditions.specs.declared.shown.Shown.{Shown}
 use Rattle.panel_conditions.specs.declared.hold.Hold.{Hold}
 use Rattle.panel_conditions.specs.Turns.{HoldTurn, findings_taken, latest_tick}
@@ -108,9 +106,3 @@ pub shown_same : (shown : Shown) (word other_word : Word) (faults other_faults :
 shown_same shown word other_word faults other_faults muted tick p q r =
     ap (λ w. shown_then shown w faults muted) p ∙ ap (λ f. shown_then shown other_word f muted) q ∙ ap
     (λ n. shown_then shown other_word other_faults (record { 0 = n })) r
-
--- one more of the findings of a batch
-pub batch_more : (P : List Finding → Type 0) (taken batch : List Finding) (k : ℕ) (d : Finding) → k < length batch
-    → P ((taken ++ take k batch) ++ get_or batch k d ∷ []) → P (taken ++ take (k + 1) batch)
-batch_more P taken batch k d small h =
-    subst P (append_assoc taken (take k batch) (get_or batch k d ∷ []) ∙ ap (λ l. taken ++ l) (sym (take_more batch k d small))) h

@@ -21,6 +21,9 @@ use Rattle.coincidence_rules.specs.declared.finding.Finding.{Finding}
 use Rattle.coincidence_rules.specs.Applied.{MayBeDone, TellsLast}
 use Rattle.coincidence_rules.specs.Places.{numbered}
 use Rattle.coincidence_rules.specs.Wired.{IsWired}
+use Rattle.answer_lanes.specs.declared.run.Run.{Run}
+use Rattle.answer_lanes.specs.Points.{finding_behind}
+use Rattle.answer_lanes.specs.Runs.{item_at}
 use Rattle.panel_conditions.specs.declared.zone_watch.ZoneWatch.{ZoneWatch}
 use Rattle.panel_conditions.specs.declared.sign.Sign.{Sign}
 use Rattle.panel_conditions.specs.declared.zones.Zones.{Zones}
@@ -198,6 +201,11 @@ pub record AreZoneSets (site : Site) (kept : Retained) (panel n : ℕ) (sets : L
 abbrev pub TellMissing : List Finding → List Bool → Type 0
 TellMissing taken told = (place : ℕ) (b : Bool) → slice_get told place ≡ Some b
     → b ≡ missing_found taken place
+
+-- the last finding of each point of a run told it missing, or not, as the run does
+abbrev pub AreTold : List Bool → Run Finding → Type 0
+AreTold told run = (place : ℕ) → run.taken ≤ place → place < run.taken + run.count
+    → slice_get told (item_at finding_behind run.first place).point ≡ Some run.first.missing
 
 -- the points are kept by address, zone and state as the findings and operations tell
 pub record WatchesPoints (site : Site) (kept : Retained) (panel : ℕ) (done : List Done) (taken : List Finding)

@@ -1,18 +1,21 @@
-ghost use Rattle.std.specs.Prelude.{◌≡◌, ◌<◌, ◌≤◌, ◌^◌, [], ◌∷◌, ℕ, List, IfOk};
+ghost use Rattle.std.specs.Prelude.{◌≡◌, ◌<◌, ◌≤◌, ◌^◌, [], ◌∷◌, ℕ, List, All, IfOk};
 ghost use Rattle.tick_units.specs.Lane.{after_turn};
 ghost use Rattle.site_types.specs.Valid.{IsValid};
+ghost use Rattle.answer_lanes.specs.Points.{finding_behind};
+ghost use Rattle.answer_lanes.specs.Runs.{HoldsItems, HasShortCount, all_items, items_of};
 
 use crate::news::has_fault;
 use crate::outside::Outside;
 use crate::points::Points;
 use crate::shown::Shown;
 use crate::signs::Signs;
-use crate::zones::Zones;
+use crate::zones::{Zones, told};
+use answer_lanes::{Lane, Run};
 use arrayvec::ArrayVec;
 use coincidence_rules::Finding;
 use site_types::{Buzzer, FaultSet, Operation, PointSet, Retained, Site, Word};
 use std::alloc::Global;
-use tick_units::{Lane, LastDone, NoMemory, Tick};
+use tick_units::{LastDone, NoMemory, Tick};
 
 /// Holds the conditions of a panel: its zones, faults and buzzer, and how often it entered the fire alarm condition.
 #[derive(Drop)]
@@ -123,19 +126,37 @@ impl Hold {
         if findings.len() == 0 {
             return;
         }
-        let mut batch: ArrayVec<Finding, 32> = ArrayVec::new();
+        let mut batch: ArrayVec<Run<Finding>, 32> = ArrayVec::new();
         findings.take_turn(&mut batch);
-        self.take_all(batch.as_slice());
+        self.take_runs(batch.as_slice());
     }
 
-    // Takes findings, one after the other.
-    fn take_all(&mut self, findings: &[Finding])
-        ensures watches { WatchesMore self.old findings.now self.new }
+    // Takes the findings of runs, one run after the other.
+    fn take_runs(&mut self, runs: &[Run<Finding>])
+        requires { All HoldsItems runs.now }
+        ensures watches { WatchesMore self.old (all_items finding_behind runs.now) self.new }
         ensures settled { StaysSettled self.old self.new }
         ensures kept { TakesFindings self.old self.new }
     {
-        for finding in findings {
-            self.take(finding);
+        for run in runs {
+            self.take_run(run);
+        }
+    }
+
+    // Takes the findings of a run. Where they tell of no zone, and of each point what was told of it last, nothing
+    // changes.
+    fn take_run(&mut self, run: &Run<Finding>)
+        requires { HasShortCount run.now }
+        ensures watches { WatchesMore self.old (items_of finding_behind run.now) self.new }
+        ensures settled { StaysSettled self.old self.new }
+        ensures kept { TakesFindings self.old self.new }
+    {
+        if is_plain(&run.first) && self.points.have_told(run) {
+            return;
+        }
+        for place in run.taken..run.taken + run.count {
+            let finding = run.item(place);
+            self.take(&finding);
         }
     }
 
@@ -189,8 +210,16 @@ impl Hold {
 }
 
 ghost use Rattle.std.specs.Prelude.{true};
+ghost use Rattle.panel_conditions.specs.Parts.{told_by};
 ghost use Rattle.panel_conditions.specs.Words.{word_with};
 ghost use Rattle.panel_conditions.specs.Stands.{outside_of};
+
+// Whether a finding tells of no zone.
+fn is_plain(finding: &Finding) -> bool
+    ensures { result ≡ true → told_by finding.now ≡ 0 }
+{
+    told(finding) == 0
+}
 
 // Whether a word tells the signs of the zones.
 fn has_signs(word: &Word, signs: &Signs) -> bool

@@ -14,9 +14,9 @@
 //! the faults and the word (`Words`), what is new, the buzzer and the entries (`Shown`).
 //!
 //! [`Hold::new`] alone takes memory: a few bytes for each point of the site, and a set of points for each
-//! zone. What a turn costs doesn't grow with the site: it is some work for each finding, a few operations on
-//! masks, and a look at the zones of which a finding or an operation told or that are in first state. An
-//! operation costs a look at the 32 numbers of zones.
+//! zone. What a turn costs doesn't grow with the site: it is a look at each run of findings, some work for each
+//! finding of a run that tells anything new, a few operations on masks, and a look at the zones of which a finding
+//! or an operation told or that are in first state. An operation costs a look at the 32 numbers of zones.
 #![tactic(auto)]
 
 mod asked;

@@ -2,11 +2,13 @@ ghost use Rattle.std.specs.Prelude.{◌≡◌, ◌≢◌, ◌⊎◌, ◌-◌, �
 ghost use Rattle.std.specs.Prelude.{IfOk, Some, option_copied};
 ghost use Rattle.site_types.specs.Bits.{has_bit, no_set};
 ghost use Rattle.site_types.specs.Valid.{IsValid};
+ghost use Rattle.answer_lanes.specs.Runs.{HasShortCount};
 
 use crate::asked::Asked;
 use crate::loop_address::LoopAddress;
 use crate::point_sets::{put, without};
 use crate::point_switch::PointSwitch;
+use answer_lanes::Run;
 use coincidence_rules::Finding;
 use site_types::{Item, Operation, Point, PointSet, Retained, Site, Zone, has_bit_32};
 use std::alloc::Global;
@@ -31,7 +33,7 @@ impl Points {
     ghost use Rattle.panel_conditions.specs.PointSets.{address_in};
     ghost use Rattle.panel_conditions.specs.Parts.{item_set, points_done, points_shown, points_taken};
     ghost use Rattle.panel_conditions.specs.Changes.{WatchesPointsMore};
-    ghost use Rattle.panel_conditions.specs.Stands.{WatchesPoints};
+    ghost use Rattle.panel_conditions.specs.Stands.{AreTold, WatchesPoints};
 
     /// The points of a panel, of which nothing was found, with what is retained in force.
     pub fn new(alloc: Global, site: &Site, panel: u8, kept: &Retained) -> Result<Points, NoMemory>
@@ -64,6 +66,23 @@ impl Points {
         }
         self.put_missing(finding);
         self.mark(place, finding.missing);
+    }
+
+    /// Whether the last finding of each point of a run told it missing, or not, as the run does. Points past the last
+    /// place that has a number don't count as told.
+    pub fn have_told(&self, run: &Run<Finding>) -> bool
+        requires { HasShortCount run.now }
+        ensures { result ≡ true → AreTold self.now.told.items run.now }
+    {
+        let first = run.first.point as usize + run.taken as usize;
+        let end = first + run.count as usize;
+        if end > 65_536 {
+            return false;
+        }
+        match self.told.get(first..end) {
+            Some(told) => are_all(told, run.first.missing),
+            None => false,
+        }
     }
 
     // Whether the last finding of a point told it missing, or not, as this one does.
@@ -152,7 +171,19 @@ impl Points {
     }
 }
 
-ghost use Rattle.std.specs.Prelude.{[], length};
+ghost use Rattle.std.specs.Prelude.{◌<◌, [], length};
+
+// Whether all marks are this one. It looks at each, so that many are looked at together.
+fn are_all(marks: &[bool], mark: bool) -> bool
+    ensures { result ≡ true → (k : ℕ) → k < length marks.now → slice_get marks.now k ≡ Some mark }
+{
+    let mut all = true;
+    for each in marks {
+        all &= *each == mark;
+    }
+    all
+}
+
 ghost use Rattle.site_types.specs.Changes.{HasOwnPlaces, IsNumber, IsPanelNumber};
 ghost use Rattle.site_types.specs.Bits.{IsPlace};
 ghost use Rattle.site_types.specs.Done.{kept_point, kept_zone};

@@ -119,17 +119,7 @@ impl Zones {
         ensures settled { (tick : ℕ) → Settled tick self.old → tick ≤ now.0
             → Settled now.0 self.new }
     {
-        let look = self.changed | self.signs.first;
-        let alarm = self.drawn(Sign::Alarm, self.signs.alarm, look, now);
-        let manual = self.drawn(Sign::Manual, self.signs.manual, look, now);
-        let released = self.drawn(Sign::Released, self.signs.released, look, now);
-        let first = self.drawn(Sign::First, self.signs.first, look, now);
-        self.signs = Signs {
-            alarm,
-            manual,
-            released,
-            first,
-        };
+        self.signs = self.signs_drawn(now);
         self.changed = changed_after(self.moved, now);
     }
 
@@ -145,6 +135,29 @@ impl Zones {
         ensures { result ≡ self.now.signs }
     {
         self.signs
+    }
+
+    // What the zones show at a tick: drawn anew for the zones to look at, as it was for all others.
+    fn signs_drawn(&self, now: Tick) -> Signs
+        ensures { (tick : ℕ) → Settled tick self.now → tick ≤ now.0
+            → result ≡ signs_at now.0 self.now.watches.items }
+    {
+        let Signs {
+            alarm,
+            manual,
+            released,
+            first,
+        } = self.signs;
+        let look = self.changed | first;
+        if look == 0 {
+            return self.signs;
+        }
+        Signs {
+            alarm: self.drawn(Sign::Alarm, alarm, look, now),
+            manual: self.drawn(Sign::Manual, manual, look, now),
+            released: self.drawn(Sign::Released, released, look, now),
+            first: self.drawn(Sign::First, first, look, now),
+        }
     }
 
     // The mask of a sign: drawn anew for the zones to look at, as it was for all others.
@@ -174,8 +187,8 @@ impl Zones {
 ghost use Rattle.panel_conditions.specs.Parts.{told_by};
 ghost use Rattle.panel_conditions.specs.Stands.{first_watch, within_of, within_rule};
 
-// The zones of which a finding tells.
-fn told(finding: &Finding) -> u32
+/// The zones of which a finding tells.
+pub fn told(finding: &Finding) -> u32
     ensures { result ≡ told_by finding.now }
 {
     finding.counted | finding.confirmed | finding.manual | finding.released

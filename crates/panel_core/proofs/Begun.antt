@@ -1,32 +1,30 @@
 -- When a tick begins, what was done in the one that ends comes in force: one operation after another, at each panel and
 -- in the settings.
-use Rattle.std.proofs.Common.{◌≡◌, ℕ, ◌+◌, ◌<◌, ◌≤◌, List, ◌∷◌, length, take, Some, slice_get, slice_set, inl, inr, sym, ◌∙◌, ap, subst, arith}
-use Rattle.std.proofs.lemmas.List.{take_all}
+use Rattle.std.proofs.Common.{◌≡◌, ℕ, ◌+◌, ◌<◌, ◌≤◌, List, ◌∷◌, length, Some, slice_get, slice_set, inl, inr, sym, ◌∙◌, ap, subst, arith}
 use Rattle.std.proofs.lemmas.Option.{slice_get_within}
 use Rattle.tick_units.specs.declared.tick.Tick.{Tick}
 use Rattle.site_types.specs.declared.retained.Retained.{Retained}
 use Rattle.site_types.specs.declared.site.Site.{Site}
 use Rattle.site_types.specs.Changes.{IsSized}
-use Rattle.site_types.specs.Done.{Done, AreBy, in_force}
-use Rattle.site_types.proofs.Done.{in_force-later}
+use Rattle.site_types.specs.Done.{Done}
 use Rattle.coincidence_rules.proofs.Lists.{get_set}
 use Rattle.operation_desk.specs.declared.desk.Desk.{Desk}
 use Rattle.operation_desk.specs.declared.done_operation.DoneOperation.{DoneOperation}
-use Rattle.operation_desk.specs.Replies.{AreInForce, TellsOpen}
+use Rattle.operation_desk.specs.Replies.{AreInForce}
 use Rattle.operation_desk.specs.Requests.{done_from, with_done}
 use Rattle.operation_desk.specs.Stands.{DesksFor}
 use Rattle.hold_calls.specs.Told.{told_in_ring}
 use Rattle.panel_rules.specs.Moments.{Moment, Began, IsRun, tick_of}
-use Rattle.panel_rules.specs.Operations.{operations}
 use Rattle.settings_shown.specs.Shown.{HasNoStrangeBits}
 use Rattle.panel_parts.specs.declared.parts.Parts.{Parts}
 use Rattle.panel_core.specs.declared.system.System.{System}
 use Rattle.panel_parts.specs.Applied.{MayBeApplied, applied, done_so_far}
 use Rattle.panel_parts.specs.Entries.{CountsFor}
 use Rattle.panel_parts.specs.Stands.{AreBefore, HasPlan}
-use Rattle.panel_core.specs.Stands.{HasApplied, HasBegunPanels, KeepsWords, StandsFor, StandsInRing}
-use Rattle.panel_parts.proofs.Settings.{past_force}
-use Rattle.panel_parts.proofs.Applied.{applied_begun, applied_is_older, before_by, by_tick, done_after_applied, done_in_front, next_may_be_applied, with_done_more}
+use Rattle.panel_core.specs.Changes.{AppliesToAll}
+use Rattle.panel_core.specs.Stands.{HasApplied, HasBegunPanels, KeepsWords, MayApplyAll, StandsFor, StandsInRing}
+use Rattle.panel_parts.proofs.Applied.{applied_begun}
+use Rattle.panel_parts.proofs.TickDone.{all_done, by_now, grew_now, next_applied, none_yet, one_more, settings_yet, so_many}
 use Rattle.panel_core.proofs.Later.{done_from_tick, words_later}
 use Rattle.panel_parts.proofs.Counts.{counts_stay}
 use Rattle.panel_parts.proofs.Panels.{after_begin}
@@ -36,33 +34,50 @@ use Rattle.panel_rules.specs.Run.{facts_of}
 
 -- ---- panels
 
+-- the first so many panels stand so already, and the others as they did
+pub record Partly (after before : ℕ → Parts → Type 0) (n : ℕ) (panels : List Parts) : Type 0 where
+  pub first : (place : ℕ) (parts : Parts) → slice_get panels place ≡ Some parts → place < n → after (place + 1) parts
+  pub rest : (place : ℕ) (parts : Parts) → slice_get panels place ≡ Some parts → n ≤ place → before (place + 1) parts
+
+module _ (after before : ℕ → Parts → Type 0) where
+  one_panel_more : (n : ℕ) (panels : List Parts) (parts : Parts) → Partly after before n panels → after (n + 1) parts
+      → Partly after before (n + 1) (slice_set panels n parts)
+  one_panel_more n panels parts h p = record {
+    first = λ place q is less. elim (get_set panels n place parts q is) [
+      | inl g ↦ (let at : n + 1 ≡ place + 1 = omega (arith, g.0) in subst (λ m. after m q) at (subst (after (n + 1)) g.1 p))
+      | inr g ↦ h.first place q g.1 (let apart = g.0 in omega (arith, less, apart))
+    ];
+    rest = λ place q is more. elim (get_set panels n place parts q is) [
+      | inl g ↦ absurd (let at = g.0 in omega (arith, at, more))
+      | inr g ↦ h.rest place q g.1 (omega (arith, more))
+    ];
+  }
+
+  no_panel_yet : (panels : List Parts) → ((place : ℕ) (parts : Parts) → slice_get panels place ≡ Some parts → before (place + 1) parts)
+      → Partly after before 0 panels
+  no_panel_yet panels each = record { first = λ place q is less. absurd (omega (arith, less)); rest = λ place q is more. each place q is }
+
+  each_panel : (n many : ℕ) (panels : List Parts) → Partly after before n panels → length panels ≡ many → many ≤ n
+      → (place : ℕ) (parts : Parts) → slice_get panels place ≡ Some parts → after (place + 1) parts
+  each_panel n many panels partly count whole place parts is =
+      partly.first place parts is (let within = slice_get_within panels place parts is in omega (arith, within, count, whole))
+
 -- the operation came in force at the first so many panels
-pub record PartlyApplied (site : Site) (kept : Retained) (before : List Moment) (done : List Done) (d : Done) (n : ℕ) (panels : List Parts) :
-    Type 0 where
-  pub first : (place : ℕ) (parts : Parts) → slice_get panels place ≡ Some parts → place < n → StandsInRing site kept (d ∷ done) (place + 1) before parts
-  pub rest : (place : ℕ) (parts : Parts) → slice_get panels place ≡ Some parts → n ≤ place → StandsInRing site kept done (place + 1) before parts
+abbrev pub PartlyApplied : Site → Retained → List Moment → List Done → Done → ℕ → List Parts → Type 0
+PartlyApplied site kept before done d n panels =
+    Partly (λ panel parts. StandsInRing site kept (d ∷ done) panel before parts) (λ panel parts. StandsInRing site kept done panel before parts) n panels
 
 pub partly_more : (site : Site) (kept : Retained) (before : List Moment) (done : List Done) (d : Done) (n : ℕ) (panels : List Parts) (parts : Parts)
     → PartlyApplied site kept before done d n panels → StandsInRing site kept (d ∷ done) (n + 1) before parts
     → PartlyApplied site kept before done d (n + 1) (slice_set panels n parts)
-partly_more site kept before done d n panels parts h p = record {
-  first = λ place q is less. elim (get_set panels n place parts q is) [
-    | inl g ↦ (let at : n + 1 ≡ place + 1 = omega (arith, g.0) in
-        subst (λ m. StandsInRing site kept (d ∷ done) m before q) at (subst (StandsInRing site kept (d ∷ done) (n + 1) before) g.1 p))
-    | inr g ↦ h.first place q g.1 (let apart = g.0 in omega (arith, less, apart))
-  ];
-  rest = λ place q is more. elim (get_set panels n place parts q is) [
-    | inl g ↦ absurd (let at = g.0 in omega (arith, at, more))
-    | inr g ↦ h.rest place q g.1 (omega (arith, more))
-  ];
-}
+partly_more site kept before done d n panels parts =
+    one_panel_more (λ panel parts. StandsInRing site kept (d ∷ done) panel before parts) (λ panel parts. StandsInRing site kept done panel before parts) n panels parts
 
 pub partly_none : (site : Site) (kept : Retained) (before : List Moment) (done : List Done) (d : Done) (system : System)
     → HasApplied site kept before done system → PartlyApplied site kept before done d 0 system.panels.items
-partly_none site kept before done d system h = record {
-  first = λ place q is less. absurd (omega (arith, less));
-  rest = λ place q is more. h.each place q is;
-}
+partly_none site kept before done d system h =
+    no_panel_yet (λ panel parts. StandsInRing site kept (d ∷ done) panel before parts) (λ panel parts. StandsInRing site kept done panel before parts)
+    system.panels.items h.each
 
 -- all panels and the settings have it
 pub applied_more : (site : Site) (kept : Retained) (before : List Moment) (done : List Done) (d : Done) (old new : System) (n : ℕ)
@@ -74,8 +89,8 @@ applied_more site kept before done d old new n h same tick count partly whole se
   same = same ∙ h.same;
   tick = ap (λ (t : Tick). t.0) tick ∙ h.tick;
   count = count ∙ h.count;
-  each = λ place parts is. partly.first place parts is
-      (let within = slice_get_within new.panels.items place parts is in let all = count ∙ h.count in omega (arith, within, all, whole));
+  each = each_panel (λ panel parts. StandsInRing site kept (d ∷ done) panel before parts) (λ panel parts. StandsInRing site kept done panel before parts) n
+      site.panels new.panels.items partly (count ∙ h.count) whole;
   settings = settings;
   sized = sized;
   own = own;
@@ -84,31 +99,22 @@ applied_more site kept before done d old new n h same tick count partly whole se
 -- ---- outputs
 
 -- the outputs of the first so many panels have taken what was done
-pub record PartlyBegun (site : Site) (kept : Retained) (before : List Moment) (done : List Done) (n : ℕ) (panels : List Parts) : Type 0 where
-  pub first : (place : ℕ) (parts : Parts) → slice_get panels place ≡ Some parts → place < n → StandsInRing site kept done (place + 1) (Began ∷ before) parts
-  pub rest : (place : ℕ) (parts : Parts) → slice_get panels place ≡ Some parts → n ≤ place → StandsInRing site kept done (place + 1) before parts
+abbrev pub PartlyBegun : Site → Retained → List Moment → List Done → ℕ → List Parts → Type 0
+PartlyBegun site kept before done n panels =
+    Partly (λ panel parts. StandsInRing site kept done panel (Began ∷ before) parts) (λ panel parts. StandsInRing site kept done panel before parts) n panels
 
 pub begun_more : (site : Site) (kept : Retained) (before : List Moment) (done : List Done) (n : ℕ) (panels : List Parts) (parts : Parts)
     → PartlyBegun site kept before done n panels → StandsInRing site kept done (n + 1) (Began ∷ before) parts
     → PartlyBegun site kept before done (n + 1) (slice_set panels n parts)
-begun_more site kept before done n panels parts h p = record {
-  first = λ place q is less. elim (get_set panels n place parts q is) [
-    | inl g ↦ (let at : n + 1 ≡ place + 1 = omega (arith, g.0) in
-        subst (λ m. StandsInRing site kept done m (Began ∷ before) q) at (subst (StandsInRing site kept done (n + 1) (Began ∷ before)) g.1 p))
-    | inr g ↦ h.first place q g.1 (let apart = g.0 in omega (arith, less, apart))
-  ];
-  rest = λ place q is more. elim (get_set panels n place parts q is) [
-    | inl g ↦ absurd (let at = g.0 in omega (arith, at, more))
-    | inr g ↦ h.rest place q g.1 (omega (arith, more))
-  ];
-}
+begun_more site kept before done n panels parts =
+    one_panel_more (λ panel parts. StandsInRing site kept done panel (Began ∷ before) parts) (λ panel parts. StandsInRing site kept done panel before parts) n
+    panels parts
 
 pub begun_none : (site : Site) (kept : Retained) (before : List Moment) (done : List Done) (system : System)
     → HasApplied site kept before done system → PartlyBegun site kept before done 0 system.panels.items
-begun_none site kept before done system h = record {
-  first = λ place q is less. absurd (omega (arith, less));
-  rest = λ place q is more. h.each place q is;
-}
+begun_none site kept before done system h =
+    no_panel_yet (λ panel parts. StandsInRing site kept done panel (Began ∷ before) parts) (λ panel parts. StandsInRing site kept done panel before parts)
+    system.panels.items h.each
 
 -- what drives the outputs of a panel of the ring
 abbrev DrivesInRing : Site → Retained → List Done → ℕ → List Moment → DrivePart → Type 0
@@ -138,8 +144,8 @@ all_begun site kept before old new n h same tick count settings partly whole = r
   same = same ∙ h.same;
   tick = ap (λ (t : Tick). t.0) tick ∙ h.tick;
   count = count ∙ h.count;
-  each = λ place parts is. partly.first place parts is
-      (let within = slice_get_within new.panels.items place parts is in let all = count ∙ h.count in omega (arith, within, all, whole));
+  each = each_panel (λ panel parts. StandsInRing site kept (done_so_far site kept before) panel (Began ∷ before) parts)
+      (λ panel parts. StandsInRing site kept (done_so_far site kept before) panel before parts) n site.panels new.panels.items partly (count ∙ h.count) whole;
   settings = rw settings h.settings;
   sized = rw settings h.sized;
   own = rw settings h.own;
@@ -149,62 +155,44 @@ all_begun site kept before old new n h same tick count settings partly whole = r
 
 module _ (site : Site) (kept : Retained) (before : List Moment) (system : System) (h : StandsFor site kept before system) (run :
     IsRun site.panels (Began ∷ before)) where
-  abbrev pub unsettled : TellsOpen (tick_of before) (operations site kept before) system.desk.waiting.items system.desk.done.items
-  unsettled = h.desk.outcomes.unsettled
-
-  abbrev pub ds : List DoneOperation
-  ds = system.desk.done.items
-
-  pub none_applied : HasApplied site kept before (with_done (tick_of before) (take 0 ds) unsettled.older) system
+  pub none_applied : HasApplied site kept before (so_many site kept before system.desk h.desk 0) system
   none_applied = record {
     valid = h.valid;
     same = h.same;
     tick = h.tick;
     count = h.count;
     each = λ place parts is.
-        subst (λ done. StandsInRing site kept done (place + 1) before parts) (applied_is_older site kept before ds unsettled.older unsettled.done_is unsettled.earlier)
-        (h.each place parts is);
-    settings = λ setting is.
-        let front = done_in_front (tick_of before) ds unsettled.older in
-        h.settings setting is
-        ∙ ap (in_force site kept setting (tick_of before)) (unsettled.done_is ∙ front.is)
-        ∙ in_force-later site kept setting (tick_of before) front.new unsettled.older front.from
-        ∙ past_force site kept setting (tick_of before) unsettled.older unsettled.earlier;
+        subst (λ done. StandsInRing site kept done (place + 1) before parts) (none_yet site kept before system.desk h.desk) (h.each place parts is);
+    settings = settings_yet site kept before system.desk h.desk system.settings h.settings;
     sized = h.sized;
     own = h.own;
   }
 
-  -- those of the tick, the oldest first, so many of them
-  abbrev pub so_many : ℕ → List Done
-  so_many k = with_done (tick_of before) (take k ds) unsettled.older
+  module _ (k tick : ℕ) (d : DoneOperation) (now : System) (at : tick ≡ tick_of before) (is : slice_get system.desk.done.items k ≡ Some d) (has :
+      HasApplied site kept before (so_many site kept before system.desk h.desk k) now) where
+    may_be : MayBeApplied site before (so_many site kept before system.desk h.desk k) (done_from tick d)
+    may_be = next_applied site kept before system.desk h.desk k tick d at is run.0 h.events
 
-  pub next_applied : (k tick : ℕ) (d : DoneOperation) → tick ≡ tick_of before → slice_get ds k ≡ Some d
-      → MayBeApplied site before (so_many k) (done_from tick d)
-  next_applied k tick d now is =
-      subst (λ t. MayBeApplied site before (so_many k) (done_from t d)) (sym now)
-      (next_may_be_applied site kept before ds unsettled.older k d run.0 h.events unsettled.done_is unsettled.earlier is)
+    pub may_apply_next : MayApplyAll (done_from tick d) now
+    may_apply_next = record { site = site; kept = kept; before = before; done = _; has = has; may = may_be }
 
-  pub more_applied : (k tick : ℕ) (d : DoneOperation) (new : System) → tick ≡ tick_of before → slice_get ds k ≡ Some d
-      → HasApplied site kept before (done_from tick d ∷ so_many k) new → HasApplied site kept before (so_many (k + 1)) new
-  more_applied k tick d new now is g =
-      subst (λ done. HasApplied site kept before done new) (ap (λ t. done_from t d ∷ so_many k) now ∙ sym (with_done_more (tick_of before) ds k d unsettled.older is)) g
+    pub more_applied : (new : System) → AppliesToAll now (done_from tick d) new
+        → HasApplied site kept before (so_many site kept before system.desk h.desk (k + 1)) new
+    more_applied new applies =
+        subst (λ done. HasApplied site kept before done new) (one_more site kept before system.desk h.desk k tick d at is) (applies site kept before _ has may_be)
 
-  pub all_applied : (k : ℕ) (new : System) → length ds ≤ k → HasApplied site kept before (so_many k) new
+  pub all_applied : (k : ℕ) (new : System) → length system.desk.done.items ≤ k → HasApplied site kept before (so_many site kept before system.desk h.desk k) new
       → HasApplied site kept before (done_so_far site kept before) new
-  all_applied k new whole g =
-      subst (λ done. HasApplied site kept before done new)
-      (ap (λ xs. with_done (tick_of before) xs unsettled.older) (take_all k ds whole) ∙ sym unsettled.done_is) g
+  all_applied k new whole = subst (λ done. HasApplied site kept before done new) (all_done site kept before system.desk h.desk k whole)
 
-  by_now : AreBy (tick_of before) (done_so_far site kept before)
-  by_now =
-      subst (AreBy (tick_of before)) (sym unsettled.done_is)
-      (by_tick (tick_of before) ds unsettled.older (before_by (tick_of before) unsettled.older unsettled.earlier))
+  begun_with_all : done_so_far site kept before ≡ applied site kept (Began ∷ before)
+  begun_with_all = applied_begun site kept before (by_now site kept before system.desk h.desk)
 
   -- the words that panels keep are those with all that was done
   words : KeepsWords site kept (applied site kept (Began ∷ before)) (Began ∷ before) system.ring
   words =
-      let grew = done_after_applied site kept before system.desk.done.items unsettled.older unsettled.done_is unsettled.earlier in
-      subst (λ done. KeepsWords site kept done (Began ∷ before) system.ring) (sym grew.is ∙ applied_begun site kept before by_now)
+      let grew = grew_now site kept before system.desk h.desk in
+      subst (λ done. KeepsWords site kept done (Began ∷ before) system.ring) (sym grew.is ∙ begun_with_all)
       (words_later site kept (applied site kept before) grew.new before (tick_of before) (done_from_tick (tick_of before) grew.new grew.from) (omega arith)
       system.ring h.ring)
 
@@ -219,7 +207,7 @@ module _ (site : Site) (kept : Retained) (before : List Moment) (system : System
     tick = now;
     count = g.count;
     each = λ place parts is.
-        subst (λ done. StandsInRing site kept done (place + 1) (Began ∷ before) parts) (applied_begun site kept before by_now) (g.each place parts is);
+        subst (λ done. StandsInRing site kept done (place + 1) (Began ∷ before) parts) begun_with_all (g.each place parts is);
     ring = subst (KeepsWords site kept (applied site kept (Began ∷ before)) (Began ∷ before)) (sym ring) words;
     events = h.events;
     desk = desks;

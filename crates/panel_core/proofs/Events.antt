@@ -200,6 +200,10 @@ pub piece_read : (site : Site) (event : Event) (panel line piece : ℕ) (state :
     → event ≡ Cable panel line piece state → HasLine site panel line
 piece_read site event panel line piece state valid has is = piece_line site panel line piece valid (ap (has_event site) (sym is) ∙ has)
 
+pub piece_within : (site : Site) (event : Event) (panel line piece : ℕ) (state : PieceState) → IsValid site → has_event site event ≡ true
+    → event ≡ Cable panel line piece state → (1 ≤ line) × (line ≤ 4)
+piece_within site event panel line piece state valid has is = let at = piece_read site event panel line piece state valid has is in (at.low, at.high)
+
 pub piece_done : (site : Site) (kept : Retained) (before : List Moment) (system : System) (desk : Desk) (event : Event) (panel line piece : ℕ) (state :
     PieceState) (new : Parts) → StandsFor site kept before system → DeskAfter site kept before event desk → event ≡ Cable panel line piece state
     → IsPanel site.panels panel

@@ -32,7 +32,7 @@ use Rattle.panel_rules.specs.Storing.{keep_answer}
 use Rattle.panel_parts.specs.declared.parts.Parts.{Parts}
 use Rattle.panel_core.specs.declared.system.System.{System}
 use Rattle.panel_parts.specs.Applied.{applied, done_so_far}
-use Rattle.panel_parts.specs.Entries.{AreLeft, CountsFor, TellsEntries}
+use Rattle.panel_parts.specs.Entries.{AreLeft, CountsFor, TellsEntries, counts_kept}
 use Rattle.panel_core.specs.Keeping.{KeepsRun, has_failed, store_of}
 use Rattle.panel_core.specs.PowerCuts.{IsLeftOver}
 use Rattle.panel_core.specs.Stands.{StandsFor}
@@ -169,18 +169,12 @@ module _ (site : Site) (kept : Retained) (before : List Moment) (system : System
           (panel_at site kept before system panel parts h p.0 is).holds
           ∙ counted_by_keep site kept panel before (told_in_ring site kept (applied site kept before) panel) h.valid run p
 
-  module _ (desk : Desk) (entries : List ℕ) (journal : Journal) (told : TellsEntries system.panels.items entries) where
-    pub noted : (failed : Bool) → failed ≡ false → IsRun site.panels (Kept failed ∷ before) → journal.kept ≡ kept_after site kept (Kept failed ∷ before)
-        → (DesksFor site kept before system.desk → MayTakeKeepTurn site failed before → DesksFor site kept (Kept failed ∷ before) desk)
-        → StandsFor site kept (Kept failed ∷ before) (record system { desk = desk; counts = record { entries = entries; counters = journal.kept.counters } })
-    noted true e turned keeps takes = absurd (not_both e)
-    noted false e turned keeps takes =
-        keep_turn site kept before system h false desk (record { entries = entries; counters = journal.kept.counters }) turned takes
-        (counts_noted entries journal told keeps)
-
-    pub not_noted : (failed : Bool) → failed ≡ true → IsRun site.panels (Kept failed ∷ before)
-        → (DesksFor site kept before system.desk → MayTakeKeepTurn site failed before → DesksFor site kept (Kept failed ∷ before) desk)
-        → StandsFor site kept (Kept failed ∷ before) (record system { desk = desk })
-    not_noted false e turned takes = absurd (not_both (sym e))
-    not_noted true e turned takes =
-        keep_turn site kept before system h true desk system.counts turned takes (counts_stay site kept before (Kept true) system.counts (λ e. cc) h.counts)
+  pub noted : (failed : Bool) (desk : Desk) (entries : List ℕ) (journal : Journal) → TellsEntries system.panels.items entries
+      → IsRun site.panels (Kept failed ∷ before) → journal.kept ≡ kept_after site kept (Kept failed ∷ before)
+      → (DesksFor site kept before system.desk → MayTakeKeepTurn site failed before → DesksFor site kept (Kept failed ∷ before) desk)
+      → StandsFor site kept (Kept failed ∷ before) (record system { desk = desk; counts = counts_kept failed entries journal.kept system.counts })
+  noted true desk entries journal told turned keeps takes =
+      keep_turn site kept before system h true desk system.counts turned takes (counts_stay site kept before (Kept true) system.counts (λ e. cc) h.counts)
+  noted false desk entries journal told turned keeps takes =
+      keep_turn site kept before system h false desk (record { entries = entries; counters = journal.kept.counters }) turned takes
+      (counts_noted entries journal told keeps)

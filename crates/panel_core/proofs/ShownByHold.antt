@@ -1,19 +1,16 @@
 -- What Hold shows is what the rules say, and equal where the code's test says so.
 use denote.Enum.Bare.{sameb}
 use Rattle.std.proofs.Common.{◌≡◌, ◌∙◌, ◌&&◌, ◌==◌, ◌-◌, ℕ, Bool, true, false, List, get_or, refl, sym, ap}
-use Rattle.std.specs.Cmp.Lexicographic.{pointwise}
-use Rattle.std.proofs.lemmas.Bool.Decides.{Decides-eqb}
-use Rattle.std.proofs.lemmas.Slice.Eq.{slice_eq-Decides}
+use Rattle.std.proofs.lemmas.Bool.{eqb-true}
 use Rattle.site_types.specs.contracts.buzzer.Buzzer.{the_type}
 use Rattle.site_types.specs.declared.buzzer.Buzzer.{Buzzer}
 use Rattle.site_types.specs.declared.fault_set.FaultSet.{FaultSet}
-use Rattle.site_types.specs.declared.point_set.PointSet.{PointSet}
 use Rattle.site_types.specs.declared.retained.Retained.{Retained}
 use Rattle.site_types.specs.declared.site.Site.{Site}
 use Rattle.site_types.specs.declared.word.Word.{Word}
-use Rattle.face_text.proofs.EqualFaces.{faults_from, points_from}
-use Rattle.face_text.proofs.SameFaces.{sound}
-use Rattle.face_text.specs.Faces.{same_faults}
+use Rattle.face_text.specs.declared.face.Face.{Face}
+use Rattle.face_text.specs.Faces.{empty_face, same_faults}
+use Rattle.face_text.proofs.SameFaces.{same_face_is, sound}
 use Rattle.panel_core.specs.declared.hold_shown.HoldShown.{HoldShown}
 use Rattle.panel_core.specs.declared.system.System.{System}
 use Rattle.panel_core.specs.PartsShown.{HoldShows, shown_with}
@@ -30,34 +27,18 @@ use Rattle.panel_parts.specs.declared.parts.Parts.{Parts}
 use Rattle.panel_parts.specs.Applied.{applied}
 use Rattle.panel_core.proofs.Shows.{asked_panel}
 
-both : (a b : Bool) → a && b ≡ true → (a ≡ true) × (b ≡ true)
-both true true e = (refl, refl)
-both true false e = cc
-both false b e = cc
+abbrev only_faults : FaultSet → Face
+only_faults faults = record (empty_face 1) { faults = faults }
 
-number : (a b : ℕ) → (a == b) ≡ true → a ≡ b
-number a b e = (Decides-eqb a b).0 e
-
-lists : (a b : List (List ℕ)) → pointwise (pointwise (λ x y. x == y)) a b ≡ true → a ≡ b
-lists a b e = (slice_eq-Decides (λ x y. slice_eq-Decides Decides-eqb x y _ refl) a b _ refl).0 e
-
-points_are : (a b : PointSet) → pointwise (pointwise (λ x y. x == y)) a.loops b.loops ≡ true → a ≡ b
-points_are a b e = points_from a b (lists a.loops b.loops e)
+and_all_else : (same : Bool) → same ≡ true → same && true ≡ true
+and_all_else true e = refl
+and_all_else false e = cc
 
 faults_are : (a b : FaultSet) → same_faults a b ≡ true → a ≡ b
-faults_are a b e =
-    let missing = both _ _ e in
-    let broken = both _ _ missing.1 in
-    let shorted = both _ _ broken.1 in
-    let supply = both _ _ shorted.1 in
-    let silent = both _ _ supply.1 in
-    let links = both _ _ silent.1 in
-    faults_from a b (points_are a.missing b.missing missing.0) (number a.broken b.broken broken.0) (number a.shorted b.shorted shorted.0)
-    (number a.supply b.supply supply.0) (number a.silent b.silent silent.0) (number a.links b.links links.0)
-    (number a.unconfirmed b.unconfirmed links.1)
+faults_are a b e = ap (λ (face : Face). face.faults) (same_face_is (only_faults a) (only_faults b) (and_all_else (same_faults a b) e))
 
 pub same_number : (a b : ℕ) (told : Bool) → told ≡ (a == b) → told ≡ true → a ≡ b
-same_number a b told is e = number a b (sym is ∙ e)
+same_number a b told is e = eqb-true a b (sym is ∙ e)
 
 pub same_buzzer : (a b : Buzzer) (told : Bool) → told ≡ sameb the_type a b → told ≡ true → a ≡ b
 same_buzzer a b told is e = sound a b (sym is ∙ e)

@@ -3,20 +3,20 @@ use Rattle.std.proofs.Common.{◌≡◌, ◌≢◌, ◌∙◌, ◌++◌, ◌≤�
 use Rattle.std.proofs.Common.{inl, inr, if◌then◌else◌, refl, ap, arith}
 use Rattle.std.specs.Prelude.{nat_lt}
 use Rattle.std.proofs.lemmas.Bool.Decides.{eqb_tells}
+use Rattle.tick_units.specs.declared.task.Task.{Task}
 use Rattle.tick_units.specs.declared.task.Task.TheVariants.{Poll, Decide, Supply, Desk, Hold, Link, Effect, Drive, Keep}
-use Rattle.site_types.specs.declared.buzzer.Buzzer.{Buzzer}
-use Rattle.site_types.specs.declared.fault_set.FaultSet.{FaultSet}
 use Rattle.site_types.specs.declared.retained.Retained.{Retained}
 use Rattle.site_types.specs.declared.site.Site.{Site}
 use Rattle.site_types.specs.Done.{Done, muted_before}
 use Rattle.site_types.proofs.Done.{muted-later}
 use Rattle.site_types.proofs.LaterDone.{AreFrom}
 use Rattle.face_text.specs.declared.face.Face.{Face}
+use Rattle.face_text.proofs.EqualFaces.{faces_from}
 use Rattle.later_operations.specs.Later.{AreDoneFrom}
 use Rattle.later_operations.proofs.Laws.{faults, outputs}
 use Rattle.later_operations.proofs.Told.{faults_later, kept_word_later, latest_word_later}
 use Rattle.panel_conditions.specs.Shown.{is_news, sounds}
-use Rattle.panel_laws.proofs.LaterDone.{Grew, turn_in_time}
+use Rattle.panel_laws.proofs.LaterDone.{turn_in_time}
 use Rattle.panel_rules.specs.Faces.{buzzer_of, last_news, shown_word, shows_news}
 use Rattle.panel_rules.specs.Moments.{Moment, Began, Happened, Turned, Kept, latest_turn, tick_of}
 use Rattle.panel_rules.specs.Outputs.{is_confirmed_out, is_on}
@@ -25,7 +25,7 @@ use Rattle.panel_rules.specs.Words.{kept_word_of, latest_word}
 use Rattle.panel_rules.proofs.AnswersTell.{eq_true}
 use Rattle.settings_shown.specs.OnFaces.{with_settings_of}
 use Rattle.panel_parts.specs.Applied.{applied, done_so_far}
-use Rattle.panel_parts.proofs.EntriesKept.{grew_since_applied}
+use Rattle.panel_parts.proofs.EntriesKept.{same_since_applied}
 use Rattle.panel_core.proofs.Later.{done_from_tick}
 
 -- ---- as more is done
@@ -54,17 +54,21 @@ module _ (site : Site) (kept : Retained) (new old : List Done) (x : ℕ) (from :
   news_later [] by = refl
   news_later (Began ∷ before) by = news_later before (omega (arith, by))
   news_later (Happened event ∷ before) by = news_later before by
-  news_later (Turned other Hold ∷ before) by =
-      ap (λ b. if (other == panel) && b then tick_of before else last_news site kept (new ++ old) panel before) (shows_later before by)
-      ∙ ap (λ n. if (other == panel) && shows_news site kept old panel before then tick_of before else n) (news_later before by)
-  news_later (Turned other Poll ∷ before) by = news_later before by
-  news_later (Turned other Decide ∷ before) by = news_later before by
-  news_later (Turned other Supply ∷ before) by = news_later before by
-  news_later (Turned other Desk ∷ before) by = news_later before by
-  news_later (Turned other Link ∷ before) by = news_later before by
-  news_later (Turned other Effect ∷ before) by = news_later before by
-  news_later (Turned other Drive ∷ before) by = news_later before by
-  news_later (Turned other Keep ∷ before) by = news_later before by
+  news_later (Turned other task ∷ before) by = turned task (news_later before by)
+    where
+      turned : (task : Task) → last_news site kept (new ++ old) panel before ≡ last_news site kept old panel before
+          → last_news site kept (new ++ old) panel (Turned other task ∷ before) ≡ last_news site kept old panel (Turned other task ∷ before)
+      turned Hold same =
+          ap (λ b. if (other == panel) && b then tick_of before else last_news site kept (new ++ old) panel before) (shows_later before by)
+          ∙ ap (λ n. if (other == panel) && shows_news site kept old panel before then tick_of before else n) same
+      turned Poll same = same
+      turned Decide same = same
+      turned Supply same = same
+      turned Desk same = same
+      turned Link same = same
+      turned Effect same = same
+      turned Drive same = same
+      turned Keep same = same
   news_later (Kept failed ∷ before) by = news_later before by
 
   buzzer_later : (m : List Moment) → tick_of m ≤ x → buzzer_of site kept (new ++ old) panel m ≡ buzzer_of site kept old panel m
@@ -86,45 +90,42 @@ module _ (site : Site) (kept : Retained) (before : List Moment) (panel : ℕ) wh
   abbrev in_force_done : List Done
   in_force_done = applied site kept before
 
-  grew : Grew in_force_done all_done (tick_of before)
-  grew = grew_since_applied site kept before
-
-  done_from : AreDoneFrom (tick_of before) grew.new
-  done_from = done_from_tick (tick_of before) grew.new grew.from
+  done_from : (new : List Done) → AreFrom (tick_of before) new → AreDoneFrom (tick_of before) new
+  done_from new from = done_from_tick (tick_of before) new from
 
   pub faults_now : faults_of site kept all_done panel before ≡ faults_of site kept in_force_done panel before
   faults_now =
-      ap (λ done. faults_of site kept done panel before) grew.is
-      ∙ faults site kept panel (tick_of before) grew.new in_force_done before done_from (omega arith)
+      same_since_applied site kept before (λ done. faults_of site kept done panel before)
+      (λ new from. faults site kept panel (tick_of before) new in_force_done before (done_from new from) (omega arith))
 
   pub on_now : (output : ℕ) → is_on site (facts_of site kept all_done) kept all_done output before
       ≡ is_on site (facts_of site kept in_force_done) kept in_force_done output before
   on_now output =
-      ap (λ done. is_on site (facts_of site kept done) kept done output before) grew.is
-      ∙ outputs.on site kept output (tick_of before) grew.new in_force_done before done_from (omega arith)
+      same_since_applied site kept before (λ done. is_on site (facts_of site kept done) kept done output before)
+      (λ new from. outputs.on site kept output (tick_of before) new in_force_done before (done_from new from) (omega arith))
 
   pub confirmed_now : (output : ℕ) → is_confirmed_out site (facts_of site kept all_done) kept all_done output before
       ≡ is_confirmed_out site (facts_of site kept in_force_done) kept in_force_done output before
   confirmed_now output =
-      ap (λ done. is_confirmed_out site (facts_of site kept done) kept done output before) grew.is
-      ∙ outputs.confirmed site kept output (tick_of before) grew.new in_force_done before done_from (omega arith)
+      same_since_applied site kept before (λ done. is_confirmed_out site (facts_of site kept done) kept done output before)
+      (λ new from. outputs.confirmed site kept output (tick_of before) new in_force_done before (done_from new from) (omega arith))
 
   pub buzzer_now : buzzer_of site kept all_done panel before ≡ buzzer_of site kept in_force_done panel before
   buzzer_now =
-      ap (λ done. buzzer_of site kept done panel before) grew.is
-      ∙ buzzer_later site kept grew.new in_force_done (tick_of before) grew.from panel before (omega arith)
+      same_since_applied site kept before (λ done. buzzer_of site kept done panel before)
+      (λ new from. buzzer_later site kept new in_force_done (tick_of before) from panel before (omega arith))
 
   pub word_now : latest_word site kept all_done (tells_fault site kept all_done) panel before
       ≡ latest_word site kept in_force_done (tells_fault site kept in_force_done) panel before
   word_now =
-      ap (λ done. latest_word site kept done (tells_fault site kept done) panel before) grew.is
-      ∙ latest_word_later site kept grew.new in_force_done (tick_of before) grew.from panel before (omega arith)
+      same_since_applied site kept before (λ done. latest_word site kept done (tells_fault site kept done) panel before)
+      (λ new from. latest_word_later site kept new in_force_done (tick_of before) from panel before (omega arith))
 
   pub kept_word_now : (source : ℕ) → kept_word_of site kept all_done (tells_fault site kept all_done) panel source before
       ≡ kept_word_of site kept in_force_done (tells_fault site kept in_force_done) panel source before
   kept_word_now source =
-      ap (λ done. kept_word_of site kept done (tells_fault site kept done) panel source before) grew.is
-      ∙ kept_word_later site kept grew.new in_force_done (tick_of before) grew.from panel source before (omega arith)
+      same_since_applied site kept before (λ done. kept_word_of site kept done (tells_fault site kept done) panel source before)
+      (λ new from. kept_word_later site kept new in_force_done (tick_of before) from panel source before (omega arith))
 
   -- ---- the words that are shown
 
@@ -144,29 +145,8 @@ module _ (site : Site) (kept : Retained) (before : List Moment) (panel : ℕ) wh
 -- ---- settings put on a face
 
 -- a face with the settings that another one shows is that one where all else is alike
-module _ (shown face : Face) where
-  abbrev with_parts : ℕ → List ℕ → List ℕ → FaultSet → ℕ → ℕ → Buzzer → ℕ → Face
-  with_parts panel zones firsts faults outputs confirmed buzzer counter =
-      record shown {
-        panel = panel;
-        zones = zones;
-        firsts = firsts;
-        faults = faults;
-        outputs = outputs;
-        confirmed = confirmed;
-        buzzer = buzzer;
-        counter = counter;
-      }
-
-  pub same_face : face.panel ≡ shown.panel → face.zones ≡ shown.zones → face.firsts ≡ shown.firsts → face.faults ≡ shown.faults
-      → face.outputs ≡ shown.outputs → face.confirmed ≡ shown.confirmed → face.buzzer ≡ shown.buzzer → face.counter ≡ shown.counter
-      → with_settings_of shown face ≡ shown
-  same_face panel zones firsts faults outputs confirmed buzzer counter =
-      ap (λ x. with_parts x face.zones face.firsts face.faults face.outputs face.confirmed face.buzzer face.counter) panel
-      ∙ ap (λ x. with_parts shown.panel x face.firsts face.faults face.outputs face.confirmed face.buzzer face.counter) zones
-      ∙ ap (λ x. with_parts shown.panel shown.zones x face.faults face.outputs face.confirmed face.buzzer face.counter) firsts
-      ∙ ap (λ x. with_parts shown.panel shown.zones shown.firsts x face.outputs face.confirmed face.buzzer face.counter) faults
-      ∙ ap (λ x. with_parts shown.panel shown.zones shown.firsts shown.faults x face.confirmed face.buzzer face.counter) outputs
-      ∙ ap (λ x. with_parts shown.panel shown.zones shown.firsts shown.faults shown.outputs x face.buzzer face.counter) confirmed
-      ∙ ap (λ x. with_parts shown.panel shown.zones shown.firsts shown.faults shown.outputs shown.confirmed x face.counter) buzzer
-      ∙ ap (λ x. with_parts shown.panel shown.zones shown.firsts shown.faults shown.outputs shown.confirmed shown.buzzer x) counter
+pub same_face : (shown face : Face) → face.panel ≡ shown.panel → face.zones ≡ shown.zones → face.firsts ≡ shown.firsts → face.faults ≡ shown.faults
+    → face.outputs ≡ shown.outputs → face.confirmed ≡ shown.confirmed → face.buzzer ≡ shown.buzzer → face.counter ≡ shown.counter
+    → with_settings_of shown face ≡ shown
+same_face shown face panel zones firsts faults outputs confirmed buzzer counter =
+    faces_from (with_settings_of shown face) shown panel zones firsts faults outputs confirmed refl refl refl refl refl buzzer counter

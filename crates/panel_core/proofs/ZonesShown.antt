@@ -44,7 +44,7 @@ pub record ShowsUpTo (told : Word → ℕ) (system : System) (panel source : ℕ
   pub none : (q : ℕ) → 1 ≤ q → source ≤ q → q ≤ 8 → slice_index_or zones (q - 1) 0 ≡ 0
 
 -- with the zones of one more panel put, those of all before it and its own are right
-each_put : (zones : List ℕ) (source item : ℕ) (right : ℕ → ℕ) → 1 ≤ source → source - 1 < length zones → item ≡ right source
+pub each_put : (zones : List ℕ) (source item : ℕ) (right : ℕ → ℕ) → 1 ≤ source → source - 1 < length zones → item ≡ right source
     → ((q : ℕ) → 1 ≤ q → q < source → get_or zones (q - 1) 0 ≡ right q)
     → (q : ℕ) → 1 ≤ q → q < source + 1 → get_or (set zones (source - 1) item) (q - 1) 0 ≡ right q
 each_put zones source item right first room is each q low high =

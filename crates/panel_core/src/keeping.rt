@@ -1,13 +1,12 @@
-ghost use Rattle.std.specs.Prelude.{◌≡◌, ◌≢◌, ◌↔◌};
-ghost use Rattle.retained_journal.specs.Images.{HasRoom, IsEarly, Stands};
-ghost use Rattle.retained_journal.specs.Outcomes.{EachMayBeLeft, EachOpens};
-ghost use Rattle.keep_turn.specs.Turns.{FailsByItsDisk, TriesAtMostOnce};
+ghost use Rattle.std.specs.Prelude.{◌≡◌};
+ghost use Rattle.retained_journal.specs.Images.{Stands};
+ghost use Rattle.keep_turn.specs.Turns.{LeavesJournal};
 
 use crate::system::System;
 use keep_batch::make_batch;
 use keep_turn::{Store, idle_turn, keep_turn};
 use panel_edges::Disk;
-use panel_parts::{KeptCounts, entries_of};
+use panel_parts::entries_of;
 use retained_journal::Journal;
 
 impl System {
@@ -22,17 +21,10 @@ impl System {
         requires stands { Stands D.honest D.images disk.old journal.old }
         ensures kept { KeepsTurn self.old journal.old result journal.new self.new }
         ensures marks { MarksKept self.old journal.old result self.new.changed }
-        ensures stands { Stands D.honest D.images disk.new journal.new }
-        ensures same { TriesAtMostOnce journal.old journal.new }
-        ensures early { IsEarly journal.old → IsEarly journal.new }
-        ensures opens { result ≢ Store.Failed → D.honest disk.new → HasRoom journal.new
-            → EachOpens (D.images disk.new) journal.new }
-        ensures images { D.honest disk.new → HasRoom journal.new
-            → EachMayBeLeft (D.images disk.new) journal.new }
+        ensures leaves { LeavesJournal D.honest D.images D.faults disk.old disk.new journal.old
+            result journal.new }
         ensures moments { D.honest disk.old
             → LeavesWithBatch D.moment D.left_since disk.old disk.new self.old journal.old }
-        ensures honest { D.honest disk.new ↔ D.honest disk.old }
-        ensures cause { FailsByItsDisk (D.faults disk.old) (D.faults disk.new) result }
     {
         let entries = entries_of(self.panels.as_slice());
         let store = self.keep_left(&entries, journal, disk);
@@ -68,17 +60,22 @@ impl System {
     {
         let failed = has_failed(store);
         self.desk.keep(failed);
-        if !failed {
-            self.counts = KeptCounts {
-                entries: *entries,
-                counters: journal.kept().counters,
-            };
-        }
+        self.counts.note(failed, entries, journal.kept());
     }
 }
 
 ghost use Rattle.std.specs.Prelude.{replicate, true};
 ghost use Rattle.panel_core.specs.Keeping.{has_failed as answers_failed};
+
+/// Whether a turn of Keep failed.
+pub fn has_failed(store: Store) -> bool
+    ensures { result ≡ answers_failed store }
+{
+    match store {
+        Store::Failed => true,
+        Store::Idle | Store::Kept => false,
+    }
+}
 
 fn are_same(counters: &[u32; 8], others: &[u32; 8]) -> bool
     ensures { result ≡ true → counters.now ≡ others.now }
@@ -90,13 +87,4 @@ fn are_none(entries: &[u64; 8]) -> bool
     ensures { result ≡ true → entries.now ≡ replicate 8 0 }
 {
     entries == &[0; 8]
-}
-
-fn has_failed(store: Store) -> bool
-    ensures { result ≡ answers_failed store }
-{
-    match store {
-        Store::Failed => true,
-        Store::Idle | Store::Kept => false,
-    }
 }

@@ -40,5 +40,6 @@ mod task_turns;
 mod turns;
 
 pub use keep_turn::Store;
+pub use keeping::has_failed;
 pub use laws::{faces_are_pinned, fronts_hold_acknowledged};
 pub use system::System;

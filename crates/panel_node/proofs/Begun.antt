@@ -1,19 +1,17 @@
 -- From the end of a tick to the beginning of the next: what was done in the one comes in force, one operation after another.
-use Rattle.std.proofs.Common.{◌≡◌, ◌≤◌, ◌+◌, ◌∙◌, ℕ, List, [], ◌∷◌, length, take, Some, slice_get, refl, sym, ap, subst, arith}
-use Rattle.std.proofs.lemmas.List.{take_all}
+use Rattle.std.proofs.Common.{◌≡◌, ◌≤◌, ◌+◌, ◌∙◌, ℕ, List, [], ◌∷◌, length, Some, slice_get, refl, sym, ap, subst, arith}
 use Rattle.tick_units.specs.declared.tick.Tick.{Tick}
 use Rattle.site_types.specs.declared.retained.Retained.{Retained}
 use Rattle.site_types.specs.declared.site.Site.{Site}
 use Rattle.site_types.specs.Changes.{IsSized}
-use Rattle.site_types.specs.Done.{Done, AreBy, in_force}
-use Rattle.site_types.proofs.Done.{in_force-later}
+use Rattle.site_types.specs.Done.{Done}
 use Rattle.kept_words.specs.Arrivals.{Made}
 use Rattle.kept_words.specs.Stands.{KeepsArrived}
 use Rattle.node_rules.specs.Histories.{Befell, NodeMoment, befallen, frames_in}
 use Rattle.operation_desk.specs.declared.desk.Desk.{Desk}
 use Rattle.operation_desk.specs.declared.done_operation.DoneOperation.{DoneOperation}
-use Rattle.operation_desk.specs.Replies.{AreInForce, TellsOpen}
-use Rattle.operation_desk.specs.Requests.{done_from, with_done}
+use Rattle.operation_desk.specs.Replies.{AreInForce}
+use Rattle.operation_desk.specs.Requests.{done_from}
 use Rattle.operation_desk.specs.Stands.{DesksFor}
 use Rattle.output_drive.specs.declared.drive.Drive.{Drive as DrivePart}
 use Rattle.output_drive.specs.Changes.{BeginsTickAfter}
@@ -24,17 +22,16 @@ use Rattle.panel_parts.specs.declared.parts.Parts.{Parts}
 use Rattle.panel_parts.specs.Applied.{MayBeApplied, applied, done_so_far}
 use Rattle.panel_parts.specs.Changes.{AppliesDone}
 use Rattle.panel_parts.specs.Stands.{HasPlan, PanelStands}
-use Rattle.panel_parts.proofs.Applied.{applied_begun, applied_is_older, before_by, by_tick, done_after_applied, done_in_front, next_may_be_applied, with_done_more}
+use Rattle.panel_parts.proofs.Applied.{applied_begun}
 use Rattle.panel_parts.proofs.Counts.{counts_stay}
 use Rattle.panel_parts.proofs.Operations.{stands_alike}
 use Rattle.panel_parts.proofs.Panels.{after_begin}
-use Rattle.panel_parts.proofs.Settings.{past_force}
+use Rattle.panel_parts.proofs.TickDone.{all_done, by_now, grew_now, next_applied, none_yet, one_more, settings_yet, so_many}
 use Rattle.panel_rules.specs.Moments.{Moment, Began, IsRun, tick_of}
-use Rattle.panel_rules.specs.Operations.{operations}
 use Rattle.settings_shown.specs.Shown.{HasNoStrangeBits}
 use Rattle.panel_node.specs.declared.node.Node.{Node}
-use Rattle.panel_node.specs.Changes.{LeavesTheRest}
-use Rattle.panel_node.specs.Stands.{NodeHasApplied, NodeStandsFor}
+use Rattle.panel_node.specs.Changes.{AppliesOne, LeavesTheRest}
+use Rattle.panel_node.specs.Stands.{MayApply, NodeHasApplied, NodeStandsFor}
 use Rattle.panel_node.specs.Told.{arrived, word_of_itself, told_by_frames}
 use Rattle.panel_node.proofs.Histories.{agree_moment}
 use Rattle.panel_node.proofs.Later.{agree_later, done_from_tick, own_later}
@@ -71,17 +68,7 @@ module _ (site : Site) (panel : ℕ) (kept : Retained) (history : List NodeMomen
   abbrev pub before : List Moment
   before = befallen history
 
-  abbrev pub unsettled : TellsOpen (tick_of before) (operations site kept before) node.desk.waiting.items node.desk.done.items
-  unsettled = h.desk.outcomes.unsettled
-
-  abbrev pub ds : List DoneOperation
-  ds = node.desk.done.items
-
-  -- those of the tick, the oldest first, so many of them
-  abbrev pub so_many : ℕ → List Done
-  so_many k = with_done (tick_of before) (take k ds) unsettled.older
-
-  pub none_applied : NodeHasApplied site panel kept history (so_many 0) node
+  pub none_applied : NodeHasApplied site panel kept history (so_many site kept before node.desk h.desk 0) node
   none_applied = record {
     valid = h.valid;
     same = h.same;
@@ -89,66 +76,57 @@ module _ (site : Site) (panel : ℕ) (kept : Retained) (history : List NodeMomen
     tick = h.tick;
     parts =
         subst (λ done. PanelStands site kept done (told_by_frames site kept done panel history) panel before node.parts)
-        (applied_is_older site kept before ds unsettled.older unsettled.done_is unsettled.earlier) h.parts;
-    settings = λ setting is.
-        let front = done_in_front (tick_of before) ds unsettled.older in
-        h.settings setting is
-        ∙ ap (in_force site kept setting (tick_of before)) (unsettled.done_is ∙ front.is)
-        ∙ in_force-later site kept setting (tick_of before) front.new unsettled.older front.from
-        ∙ past_force site kept setting (tick_of before) unsettled.older unsettled.earlier;
+        (none_yet site kept before node.desk h.desk) h.parts;
+    settings = settings_yet site kept before node.desk h.desk node.settings h.settings;
     sized = h.sized;
     things = h.things;
   }
 
-  pub next_applied : (k tick : ℕ) (d : DoneOperation) → tick ≡ tick_of before → slice_get ds k ≡ Some d
-      → MayBeApplied site before (so_many k) (done_from tick d)
-  next_applied k tick d now is =
-      subst (λ t. MayBeApplied site before (so_many k) (done_from t d)) (sym now)
-      (next_may_be_applied site kept before ds unsettled.older k d run.0 h.events unsettled.done_is unsettled.earlier is)
+  module _ (k tick : ℕ) (d : DoneOperation) (now : Node) (at : tick ≡ tick_of before) (is : slice_get node.desk.done.items k ≡ Some d) (has :
+      NodeHasApplied site panel kept history (so_many site kept before node.desk h.desk k) now) where
+    may_be : MayBeApplied site before (so_many site kept before node.desk h.desk k) (done_from tick d)
+    may_be = next_applied site kept before node.desk h.desk k tick d at is run.0 h.events
 
-  pub more_applied : (k tick : ℕ) (d : DoneOperation) (new : Node) → tick ≡ tick_of before → slice_get ds k ≡ Some d
-      → NodeHasApplied site panel kept history (done_from tick d ∷ so_many k) new → NodeHasApplied site panel kept history (so_many (k + 1)) new
-  more_applied k tick d new now is g =
-      subst (λ done. NodeHasApplied site panel kept history done new)
-      (ap (λ t. done_from t d ∷ so_many k) now ∙ sym (with_done_more (tick_of before) ds k d unsettled.older is)) g
+    pub may_apply_next : MayApply (done_from tick d) now
+    may_apply_next = record { site = site; panel = panel; kept = kept; history = history; done = _; has = has; may = may_be }
 
-  pub all_applied : (k : ℕ) (new : Node) → length ds ≤ k → NodeHasApplied site panel kept history (so_many k) new
+    pub more_applied : (new : Node) → AppliesOne now (done_from tick d) new
+        → NodeHasApplied site panel kept history (so_many site kept before node.desk h.desk (k + 1)) new
+    more_applied new applies =
+        subst (λ done. NodeHasApplied site panel kept history done new) (one_more site kept before node.desk h.desk k tick d at is)
+        (applies site panel kept history _ has may_be)
+
+  pub all_applied : (k : ℕ) (new : Node) → length node.desk.done.items ≤ k → NodeHasApplied site panel kept history (so_many site kept before node.desk h.desk k) new
       → NodeHasApplied site panel kept history (done_so_far site kept before) new
-  all_applied k new whole g =
-      subst (λ done. NodeHasApplied site panel kept history done new)
-      (ap (λ xs. with_done (tick_of before) xs unsettled.older) (take_all k ds whole) ∙ sym unsettled.done_is) g
+  all_applied k new whole = subst (λ done. NodeHasApplied site panel kept history done new) (all_done site kept before node.desk h.desk k whole)
 
   -- ---- the next tick
 
-  by_now : AreBy (tick_of before) (done_so_far site kept before)
-  by_now =
-      subst (AreBy (tick_of before)) (sym unsettled.done_is)
-      (by_tick (tick_of before) ds unsettled.older (before_by (tick_of before) unsettled.older unsettled.earlier))
-
-  all_done : done_so_far site kept before ≡ applied site kept (Began ∷ before)
-  all_done = applied_begun site kept before by_now
+  begun_with_all : done_so_far site kept before ≡ applied site kept (Began ∷ before)
+  begun_with_all = applied_begun site kept before (by_now site kept before node.desk h.desk)
 
   -- the word that it keeps of itself is that with all that was done
   own_begun : word_of_itself site kept (applied site kept before) panel history before
       ≡ word_of_itself site kept (applied site kept (Began ∷ before)) panel (Befell Began ∷ history) (Began ∷ before)
   own_begun =
-      let grew = done_after_applied site kept before ds unsettled.older unsettled.done_is unsettled.earlier in
+      let grew = grew_now site kept before node.desk h.desk in
       sym (own_later site kept panel history grew.new (applied site kept before) (tick_of before) (done_from_tick (tick_of before) grew.new grew.from) before
       (omega arith))
-      ∙ ap (λ done. word_of_itself site kept done panel history before) (sym grew.is ∙ all_done)
+      ∙ ap (λ done. word_of_itself site kept done panel history before) (sym grew.is ∙ begun_with_all)
       ∙ own_stays site kept (applied site kept (Began ∷ before)) panel Began history refl
 
   -- its outputs took what its desk has done
   drive_begun : (parts : Parts) (drive : DrivePart) (at tick : ℕ) → at ≡ panel → tick ≡ tick_of before
       → PanelStands site kept (done_so_far site kept before) (told_by_frames site kept (done_so_far site kept before) panel history) panel before parts
-      → BeginsTickAfter parts.drive at tick ds drive
+      → BeginsTickAfter parts.drive at tick node.desk.done.items drive
       → PanelStands site kept (done_so_far site kept before) (told_by_frames site kept (done_so_far site kept before) panel history) panel (Began ∷ before)
       (record parts { drive = drive })
   drive_begun parts drive at tick is now stands begins =
       after_begin site kept (done_so_far site kept before) told panel before parts drive stands
-      (subst (λ done. DrivesFor site told.facts kept done panel (Began ∷ before) drive) (sym unsettled.done_is)
-      (rw (is, now) at begins site told.facts kept unsettled.older before
-      (subst (λ done. DrivesFor site told.facts kept done panel before parts.drive) unsettled.done_is stands.drives) unsettled.earlier refl))
+      (subst (λ done. DrivesFor site told.facts kept done panel (Began ∷ before) drive) (sym h.desk.outcomes.unsettled.done_is)
+      (rw (is, now) at begins site told.facts kept h.desk.outcomes.unsettled.older before
+      (subst (λ done. DrivesFor site told.facts kept done panel before parts.drive) h.desk.outcomes.unsettled.done_is stands.drives)
+      h.desk.outcomes.unsettled.earlier refl))
     where
       told : Told
       told = told_by_frames site kept (done_so_far site kept before) panel history
@@ -165,7 +143,7 @@ module _ (site : Site) (panel : ℕ) (kept : Retained) (history : List NodeMomen
     tick = now;
     parts =
         subst (λ done. PanelStands site kept done (told_by_frames site kept done panel (Befell Began ∷ history)) panel (Began ∷ before)
-        (record node'.parts { drive = drive })) all_done
+        (record node'.parts { drive = drive })) begun_with_all
         (stands_alike site kept (done_so_far site kept before) (told_by_frames site kept (done_so_far site kept before) panel history)
         (told_by_frames site kept (done_so_far site kept before) panel (Befell Began ∷ history)) panel (Began ∷ before) (record node'.parts { drive = drive })
         (agree_moment site kept (done_so_far site kept before) panel Began history)

@@ -20,9 +20,9 @@ use Rattle.node_rules.specs.Nodes.{node_up, node_words}
 use Rattle.node_rules.specs.Shown.{handed_buzzer, handed_news, tells_news}
 use Rattle.node_rules.proofs.LaterHanded.{handed_stays}
 use Rattle.panel_conditions.specs.Shown.{is_news, sounds}
-use Rattle.panel_laws.proofs.LaterDone.{Grew, turn_in_time}
+use Rattle.panel_laws.proofs.LaterDone.{turn_in_time}
 use Rattle.panel_parts.specs.Applied.{applied, done_so_far}
-use Rattle.panel_parts.proofs.EntriesKept.{grew_since_applied}
+use Rattle.panel_parts.proofs.EntriesKept.{same_since_applied}
 use Rattle.panel_rules.specs.Moments.{Moment, Began, Happened, Turned, Kept, latest_turn, tick_of}
 use Rattle.panel_rules.specs.Outputs.{goes_on, is_confirmed_out, is_on}
 use Rattle.panel_node.specs.Told.{word_of_itself, told_by_frames}
@@ -160,37 +160,34 @@ module _ (site : Site) (kept : Retained) (panel : ℕ) (history : List NodeMomen
   abbrev in_force_done : List Done
   in_force_done = applied site kept before
 
-  grew : Grew in_force_done all_done (tick_of before)
-  grew = grew_since_applied site kept before
-
   pub word_now : handed_word site kept all_done panel handed up before ≡ handed_word site kept in_force_done panel handed up before
   word_now =
-      ap (λ done. handed_word site kept done panel handed up before) grew.is
-      ∙ word_later site kept panel handed up grew.new in_force_done (tick_of before) grew.from before (omega arith)
+      same_since_applied site kept before (λ done. handed_word site kept done panel handed up before)
+      (λ new from. word_later site kept panel handed up new in_force_done (tick_of before) from before (omega arith))
 
   pub own_now : word_of_itself site kept all_done panel history before ≡ word_of_itself site kept in_force_done panel history before
   own_now =
-      ap (λ done. word_of_itself site kept done panel history before) grew.is
-      ∙ own_later site kept panel history grew.new in_force_done (tick_of before) (done_from_tick (tick_of before) grew.new grew.from) before (omega arith)
+      same_since_applied site kept before (λ done. word_of_itself site kept done panel history before)
+      (λ new from. own_later site kept panel history new in_force_done (tick_of before) (done_from_tick (tick_of before) new from) before (omega arith))
 
   pub faults_now : handed_faults site kept all_done panel handed up before ≡ handed_faults site kept in_force_done panel handed up before
   faults_now =
-      ap (λ done. handed_faults site kept done panel handed up before) grew.is
-      ∙ faults_later site kept panel handed up grew.new in_force_done (tick_of before) grew.from before (omega arith)
+      same_since_applied site kept before (λ done. handed_faults site kept done panel handed up before)
+      (λ new from. faults_later site kept panel handed up new in_force_done (tick_of before) from before (omega arith))
 
   pub buzzer_now : handed_buzzer site kept all_done panel handed up before ≡ handed_buzzer site kept in_force_done panel handed up before
   buzzer_now =
-      ap (λ done. handed_buzzer site kept done panel handed up before) grew.is
-      ∙ buzzer_later site kept panel handed up grew.new in_force_done (tick_of before) grew.from before (omega arith)
+      same_since_applied site kept before (λ done. handed_buzzer site kept done panel handed up before)
+      (λ new from. buzzer_later site kept panel handed up new in_force_done (tick_of before) from before (omega arith))
 
   pub on_now : (output : ℕ) → is_on site (handed_facts site kept all_done panel handed up) kept all_done output before
       ≡ is_on site (handed_facts site kept in_force_done panel handed up) kept in_force_done output before
   on_now output =
-      ap (λ done. is_on site (handed_facts site kept done panel handed up) kept done output before) grew.is
-      ∙ on_later site kept panel handed up grew.new in_force_done (tick_of before) grew.from output before (omega arith)
+      same_since_applied site kept before (λ done. is_on site (handed_facts site kept done panel handed up) kept done output before)
+      (λ new from. on_later site kept panel handed up new in_force_done (tick_of before) from output before (omega arith))
 
   pub confirmed_now : (output : ℕ) → is_confirmed_out site (handed_facts site kept all_done panel handed up) kept all_done output before
       ≡ is_confirmed_out site (handed_facts site kept in_force_done panel handed up) kept in_force_done output before
   confirmed_now output =
-      ap (λ done. is_confirmed_out site (handed_facts site kept done panel handed up) kept done output before) grew.is
-      ∙ confirmed_later site kept panel handed up grew.new in_force_done (tick_of before) grew.from output before (omega arith)
+      same_since_applied site kept before (λ done. is_confirmed_out site (handed_facts site kept done panel handed up) kept done output before)
+      (λ new from. confirmed_later site kept panel handed up new in_force_done (tick_of before) from output before (omega arith))

@@ -30,7 +30,7 @@ use Rattle.panel_laws.proofs.EntriesAddUp.{counted_once}
 use Rattle.panel_laws.proofs.EventsOfSite.{of_site}
 use Rattle.panel_parts.specs.declared.kept_counts.KeptCounts.{KeptCounts}
 use Rattle.panel_parts.specs.Applied.{applied, done_so_far}
-use Rattle.panel_parts.specs.Entries.{AreLeft, CountsFor}
+use Rattle.panel_parts.specs.Entries.{AreLeft, CountsFor, counts_kept}
 use Rattle.panel_parts.proofs.Counts.{counts_stay}
 use Rattle.panel_parts.proofs.EntriesKept.{counted_by_keep, left_to_keep}
 use Rattle.panel_parts.proofs.Panels.{after_keep}
@@ -44,9 +44,6 @@ use Rattle.panel_node.specs.Stands.{NodeStandsFor}
 use Rattle.panel_node.specs.Told.{word_of_itself, told_by_frames}
 use Rattle.panel_node.proofs.Next.{own_stays, stands_next}
 use Rattle.panel_node.proofs.OwnEvents.{others_quiet}
-
-not_both : true ≡ false → ⊥
-not_both e = cc
 
 -- ---- entries
 
@@ -175,19 +172,12 @@ module _ (site : Site) (panel : ℕ) (kept : Retained) (history : List NodeMomen
           h.parts.holds
           ∙ counted_by_keep site kept panel before told h.valid run p
 
-  module _ (desk : Desk) (since : List ℕ) (journal : Journal) (tells : TellsOwnEntries node since) where
-    pub noted : (failed : Bool) → failed ≡ false → IsRun site.panels (Kept failed ∷ before) → journal.kept ≡ kept_after site kept (Kept failed ∷ before)
-        → (DesksFor site kept before node.desk → MayTakeKeepTurn site failed before → DesksFor site kept (Kept failed ∷ before) desk)
-        → NodeStandsFor site panel kept (Befell (Kept failed) ∷ history)
-        (record node { desk = desk; counts = record { entries = since; counters = journal.kept.counters } })
-    noted true e turned keeps takes = absurd (not_both e)
-    noted false e turned keeps takes =
-        stands_kept false desk (record { entries = since; counters = journal.kept.counters }) (takes h.desk (keep_may false turned))
-        (counts_noted since journal tells keeps)
-
-    pub not_noted : (failed : Bool) → failed ≡ true → IsRun site.panels (Kept failed ∷ before)
-        → (DesksFor site kept before node.desk → MayTakeKeepTurn site failed before → DesksFor site kept (Kept failed ∷ before) desk)
-        → NodeStandsFor site panel kept (Befell (Kept failed) ∷ history) (record node { desk = desk })
-    not_noted false e turned takes = absurd (not_both (sym e))
-    not_noted true e turned takes =
-        stands_kept true desk node.counts (takes h.desk (keep_may true turned)) (counts_stay site kept before (Kept true) node.counts (λ e. cc) h.counts)
+  pub noted : (failed : Bool) (desk : Desk) (since : List ℕ) (journal : Journal) → TellsOwnEntries node since → IsRun site.panels (Kept failed ∷ before)
+      → journal.kept ≡ kept_after site kept (Kept failed ∷ before)
+      → (DesksFor site kept before node.desk → MayTakeKeepTurn site failed before → DesksFor site kept (Kept failed ∷ before) desk)
+      → NodeStandsFor site panel kept (Befell (Kept failed) ∷ history) (record node { desk = desk; counts = counts_kept failed since journal.kept node.counts })
+  noted true desk since journal tells turned keeps takes =
+      stands_kept true desk node.counts (takes h.desk (keep_may true turned)) (counts_stay site kept before (Kept true) node.counts (λ e. cc) h.counts)
+  noted false desk since journal tells turned keeps takes =
+      stands_kept false desk (record { entries = since; counters = journal.kept.counters }) (takes h.desk (keep_may false turned))
+      (counts_noted since journal tells keeps)

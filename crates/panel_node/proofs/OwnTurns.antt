@@ -1,5 +1,5 @@
 -- A turn of a task of the panel: when its parts and its desk may have it, and what it makes of the panel.
-use Rattle.std.proofs.Common.{◌≡◌, ◌≢◌, ◌-◌, ◌∙◌, ◌≤◌, ℕ, List, ◌∷◌, inl, inr, refl, ap, arith}
+use Rattle.std.proofs.Common.{◌≡◌, ◌≢◌, ◌-◌, ◌∙◌, ◌≤◌, ℕ, List, [], ◌∷◌, inl, inr, refl, ap, arith}
 use Rattle.std.specs.Prelude.{slice_index}
 use Rattle.tick_units.specs.declared.task.Task.{Task}
 use Rattle.tick_units.specs.Ticks.{last_tick}
@@ -32,12 +32,52 @@ use Rattle.panel_parts.proofs.Settings.{applied_latest_first, are_off}
 use Rattle.panel_rules.specs.Moments.{Moment, Turned, IsRun, tick_of}
 use Rattle.panel_node.specs.declared.node.Node.{Node}
 use Rattle.panel_node.specs.Changes.{MakesTurn}
-use Rattle.panel_node.specs.Stands.{MayTurn, NodeStandsFor}
+use Rattle.panel_node.specs.Stands.{MayTurn, MayTurnOwn, NodeStandsFor}
 use Rattle.panel_node.specs.Told.{arrived, word_of_itself, told_by_frames}
 use Rattle.panel_node.proofs.Desks.{desk_left}
 use Rattle.panel_node.proofs.KeptWords.{made_again}
 use Rattle.panel_node.proofs.Next.{stands_further, stands_next, stands_turned}
 use Rattle.panel_node.proofs.Words.{own_at_link}
+
+-- ---- one turn after another
+
+-- what befell the panel with the turns of these tasks, the latest first
+abbrev pub and_tasks : ℕ → List Task → List NodeMoment → List NodeMoment
+and_tasks panel [] history = history
+and_tasks panel (task ∷ tasks) history = Befell (Turned panel task) ∷ and_tasks panel tasks history
+
+-- these tasks had their turns
+pub record MakeTheirTurns (old : Node) (tasks : List Task) (node : Node) : Type 0 where
+  pub makes : (site : Site) (panel : ℕ) (kept : Retained) (history : List NodeMoment) → NodeStandsFor site panel kept history old
+      → IsRun site.panels (befallen (and_tasks panel tasks history)) → NodeStandsFor site panel kept (and_tasks panel tasks history) node
+
+pub first_turn : {old node : Node} {task : Task} → MakesTurn old task node → MakeTheirTurns old (task ∷ []) node
+first_turn turn = record { makes = turn }
+
+pub then_turn : {old between node : Node} {tasks : List Task} {task : Task} → MakeTheirTurns old tasks between → MakesTurn between task node
+    → MakeTheirTurns old (task ∷ tasks) node
+then_turn {old} {between} {node} {tasks} {task} first turn = record {
+  makes = λ site panel kept history h run. turn site panel kept (and_tasks panel tasks history) (first.makes site panel kept history h run.0) run;
+}
+
+-- then another may have its turn
+pub may_turn_then : {old node : Node} {tasks : List Task} {task : Task} (may : MayTurnOwn old) → MakeTheirTurns old tasks node
+    → IsRun may.site.panels (Turned may.panel task ∷ befallen (and_tasks may.panel tasks may.history)) → MayTurn task node
+may_turn_then {old} {node} {tasks} {task} may make run = record {
+  site = may.site;
+  panel = may.panel;
+  kept = may.kept;
+  history = and_tasks may.panel tasks may.history;
+  stands = make.makes may.site may.panel may.kept may.history may.stands run.0;
+  run = run;
+  few = same_tick tasks;
+}
+  where
+    same_tick : (all : List Task) → tick_of (befallen (and_tasks may.panel all may.history)) ≤ last_tick
+    same_tick [] = may.few
+    same_tick (one ∷ all) = same_tick all
+
+-- ---- what a turn makes
 
 pub parts_may_turn : (task : Task) (node : Node) → MayTurn task node → PartsMayTurn task node.tick.0 node.parts
 parts_may_turn task node may = record {

@@ -1,9 +1,9 @@
 -- The zones on a face of a panel by itself: put panel by panel, by the words that are shown.
-use Rattle.std.proofs.Common.{◌≡◌, ◌≢◌, ◌∙◌, ◌+◌, ◌-◌, ◌≤◌, ◌<◌, ℕ, List, length, get_or, set, inl, inr}
+use Rattle.std.proofs.Common.{◌≡◌, ◌≢◌, ◌∙◌, ◌+◌, ◌-◌, ◌≤◌, ◌<◌, ℕ, List, length, set, inl, inr}
 use Rattle.std.proofs.Common.{refl, sym, ap, arith, length-set, replicate}
 use Rattle.std.specs.Prelude.{slice_index_or}
 use Rattle.std.proofs.lemmas.Bool.{eq-eqb, ne_eqb}
-use Rattle.std.proofs.lemmas.List.{get_or-replicate, get_or-set_other, get_or-set_same}
+use Rattle.std.proofs.lemmas.List.{get_or-replicate, get_or-set_other}
 use Rattle.site_types.specs.declared.retained.Retained.{Retained}
 use Rattle.site_types.specs.declared.site.Site.{Site}
 use Rattle.site_types.specs.declared.word.Word.{Word}
@@ -14,6 +14,7 @@ use Rattle.node_rules.specs.Handed.{handed_word}
 use Rattle.node_rules.specs.Histories.{NodeMoment, befallen, frames_in}
 use Rattle.node_rules.specs.Nodes.{node_done, node_up, node_words}
 use Rattle.node_rules.proofs.OwnFrames.{came_ok}
+use Rattle.panel_core.proofs.ZonesShown.{each_put}
 use Rattle.panel_effects.proofs.HeardMasks.{filled}
 use Rattle.panel_parts.specs.Applied.{applied}
 use Rattle.panel_rules.specs.Moments.{IsRun}
@@ -43,22 +44,6 @@ pub record ShowsUpTo (told : Word → ℕ) (node : Node) (source : ℕ) (zones :
       → slice_index_or zones (q - 1) 0 ≡ told (node_shows site panel kept history q)
   pub none : (q : ℕ) → 1 ≤ q → source ≤ q → q ≤ 8 → slice_index_or zones (q - 1) 0 ≡ 0
 
--- with the zones of one more panel put, those of all before it and its own are right
-each_put : (zones : List ℕ) (source item : ℕ) (right : ℕ → ℕ) → 1 ≤ source → source - 1 < length zones → item ≡ right source
-    → ((q : ℕ) → 1 ≤ q → q < source → get_or zones (q - 1) 0 ≡ right q)
-    → (q : ℕ) → 1 ≤ q → q < source + 1 → get_or (set zones (source - 1) item) (q - 1) 0 ≡ right q
-each_put zones source item right first room is each q low high =
-    elim (lt_tells q source) [
-      | inl t ↦
-          let less = t.1 in
-          get_or-set_other zones (source - 1) (q - 1) item 0 (λ same. absurd (omega (arith, same, less, low, first)))
-          ∙ each q low less
-      | inr t ↦
-          let same : q ≡ source = (let more = t.1 in omega (arith, more, high)) in
-          ap (λ p. get_or (set zones (source - 1) item) (p - 1) 0) same
-          ∙ get_or-set_same zones (source - 1) item 0 room ∙ is ∙ ap right (sym same)
-    ]
-
 module _ (told : Word → ℕ) (node : Node) where
   pub shows_none_yet : ShowsUpTo told node 1 (replicate 8 0)
   shows_none_yet = record {
@@ -67,13 +52,16 @@ module _ (told : Word → ℕ) (node : Node) where
     none = λ q low behind high. get_or-replicate 8 (q - 1) 0 0 (omega (arith, low, high));
   }
 
-  pub shows_next : (source : ℕ) (word : Word) (zones : List ℕ) → 1 ≤ source → source ≤ 8 → ShowsUpTo told node source zones → ShowsWord node source word
-      → ShowsUpTo told node (source + 1) (set zones (source - 1) (told word))
+  -- a panel of the site more
+  pub shows_next : (source : ℕ) (word : Word) (zones : List ℕ) → 1 ≤ source → source ≤ node.site.panels → ShowsUpTo told node source zones
+      → ShowsWord node source word → ShowsUpTo told node (source + 1) (set zones (source - 1) (told word))
   shows_next source word zones first last h shown = record {
     wide = length-set zones (source - 1) (told word) ∙ h.wide;
     each = λ site panel kept history stands run. (
         let wide = h.wide in
-        each_put zones source (told word) (λ q. told (node_shows site panel kept history q)) first (omega (arith, wide, first, last))
+        let panels = ap (λ (s : Site). s.panels) stands.same in
+        let eight = stands.valid.forms.panels.1 in
+        each_put zones source (told word) (λ q. told (node_shows site panel kept history q)) first (omega (arith, wide, first, last, panels, eight))
         (ap told (shown site panel kept history stands run)) (h.each site panel kept history stands run));
     none = λ q low behind high. (
         get_or-set_other zones (source - 1) (q - 1) (told word) 0 (λ same. absurd (omega (arith, same, behind, low, first)))

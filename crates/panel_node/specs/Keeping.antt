@@ -74,17 +74,21 @@ NotesKept old store entries journal node =
     → journal.kept ≡ kept_after site kept (Kept (has_failed store) ∷ befallen history)
     → NodeStandsFor site panel kept (Befell (Kept (has_failed store)) ∷ history) node
 
--- Keep may have its turn, and the journal one commit more
-pub record MayKeep (journal : Journal) (node : Node) : Type 0 where
+-- what follows may befall it, in a tick that has begun, and the journal may have one commit more
+pub record MayCommitIn (follows : Site → List NodeMoment → List Moment) (journal : Journal) (node : Node) : Type 0 where
   pub site : Site
   pub panel : ℕ
   pub kept : Retained
   pub history : List NodeMoment
   pub stands : NodeStandsFor site panel kept history node
   pub keeps : KeepsRun site kept (befallen history) journal
-  pub run : IsRun site.panels (Kept false ∷ befallen history)
+  pub run : IsRun site.panels (follows site history)
   pub few : tick_of (befallen history) ≤ last_tick
   pub tried : journal.tried ≤ last_tick
+
+-- Keep may have its turn
+abbrev pub MayKeep : Journal → Node → Type 0
+MayKeep journal node = MayCommitIn (λ site history. Kept false ∷ befallen history) journal node
 
 -- Keep had its turn
 abbrev pub KeepsTurn : Node → Journal → Store → Journal → Node → Type 0
@@ -94,17 +98,9 @@ KeepsTurn old journal store journal' node =
     → IsRun site.panels (Kept false ∷ befallen history) → tick_of (befallen history) ≤ last_tick
     → NodeHasTurned site panel kept (Befell (Kept (has_failed store)) ∷ history) store journal' node
 
--- each seat of the site may have its turn, in canonical order, and the journal one commit more
-pub record MayTurnAll (journal : Journal) (node : Node) : Type 0 where
-  pub site : Site
-  pub panel : ℕ
-  pub kept : Retained
-  pub history : List NodeMoment
-  pub stands : NodeStandsFor site panel kept history node
-  pub keeps : KeepsRun site kept (befallen history) journal
-  pub run : IsRun site.panels (and_all_turns site history)
-  pub few : tick_of (befallen history) ≤ last_tick
-  pub tried : journal.tried ≤ last_tick
+-- each seat of the site may have its turn, in canonical order
+abbrev pub MayTurnAll : Journal → Node → Type 0
+MayTurnAll journal node = MayCommitIn and_all_turns journal node
 
 -- each seat of the site had its turn, in canonical order
 abbrev pub MakesAllTurns : Node → Journal → Store → Journal → Node → Type 0

@@ -1,13 +1,12 @@
-ghost use Rattle.std.specs.Prelude.{◌≡◌, ◌≢◌, ◌↔◌};
-ghost use Rattle.retained_journal.specs.Images.{HasRoom, IsEarly, Stands};
-ghost use Rattle.retained_journal.specs.Outcomes.{EachMayBeLeft, EachOpens};
-ghost use Rattle.keep_turn.specs.Turns.{FailsByItsDisk, TriesAtMostOnce};
+ghost use Rattle.std.specs.Prelude.{◌≡◌};
+ghost use Rattle.retained_journal.specs.Images.{Stands};
+ghost use Rattle.keep_turn.specs.Turns.{LeavesJournal};
 
 use crate::node::Node;
 use keep_batch::make_batch;
 use keep_turn::{Store, keep_turn};
+use panel_core::has_failed;
 use panel_edges::Disk;
-use panel_parts::KeptCounts;
 use retained_journal::{Batch, Journal};
 
 impl Node {
@@ -21,17 +20,10 @@ impl Node {
         requires stands { Stands D.honest D.images disk.old journal.old }
         ensures kept { KeepsTurn self.old journal.old result journal.new self.new }
         ensures digest { self.new.digest ≡ self.old.digest }
-        ensures stands { Stands D.honest D.images disk.new journal.new }
-        ensures same { TriesAtMostOnce journal.old journal.new }
-        ensures early { IsEarly journal.old → IsEarly journal.new }
-        ensures opens { result ≢ Store.Failed → D.honest disk.new → HasRoom journal.new
-            → EachOpens (D.images disk.new) journal.new }
-        ensures images { D.honest disk.new → HasRoom journal.new
-            → EachMayBeLeft (D.images disk.new) journal.new }
+        ensures leaves { LeavesJournal D.honest D.images D.faults disk.old disk.new journal.old
+            result journal.new }
         ensures moments { D.honest disk.old
             → LeavesWithBatch D.moment D.left_since disk.old disk.new self.old journal.old }
-        ensures honest { D.honest disk.new ↔ D.honest disk.old }
-        ensures cause { FailsByItsDisk (D.faults disk.old) (D.faults disk.new) result }
     {
         let entries = self.entries();
         let batch = self.left_batch(&entries);
@@ -71,22 +63,6 @@ impl Node {
     {
         let failed = has_failed(store);
         self.desk.keep(failed);
-        if !failed {
-            self.counts = KeptCounts {
-                entries: *entries,
-                counters: journal.kept().counters,
-            };
-        }
-    }
-}
-
-ghost use Rattle.panel_core.specs.Keeping.{has_failed as answers_failed};
-
-fn has_failed(store: Store) -> bool
-    ensures { result ≡ answers_failed store }
-{
-    match store {
-        Store::Failed => true,
-        Store::Idle | Store::Kept => false,
+        self.counts.note(failed, entries, journal.kept());
     }
 }

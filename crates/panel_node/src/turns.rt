@@ -1,7 +1,6 @@
-ghost use Rattle.std.specs.Prelude.{◌≡◌, ◌≢◌, ◌↔◌};
-ghost use Rattle.retained_journal.specs.Images.{HasRoom, IsEarly, Stands};
-ghost use Rattle.retained_journal.specs.Outcomes.{EachOpens};
-ghost use Rattle.keep_turn.specs.Turns.{FailsByItsDisk, TriesAtMostOnce};
+ghost use Rattle.std.specs.Prelude.{◌≡◌};
+ghost use Rattle.retained_journal.specs.Images.{HasRoom, Stands};
+ghost use Rattle.keep_turn.specs.Turns.{LeavesJournal};
 
 use crate::node::Node;
 use keep_turn::Store;
@@ -19,18 +18,13 @@ impl Node {
         requires stands { Stands D.honest D.images disk.old journal.old }
         ensures turns { MakesAllTurns self.old journal.old result journal.new self.new }
         ensures digest { self.new.digest ≡ self.old.digest }
-        ensures stands { Stands D.honest D.images disk.new journal.new }
-        ensures same { TriesAtMostOnce journal.old journal.new }
-        ensures early { IsEarly journal.old → IsEarly journal.new }
-        ensures opens { result ≢ Store.Failed → D.honest disk.new → HasRoom journal.new
-            → EachOpens (D.images disk.new) journal.new }
+        ensures leaves { LeavesJournal D.honest D.images D.faults disk.old disk.new journal.old
+            result journal.new }
         // A power cut leaves a front of the run: what is kept, or that with the batch of a turn of Keep that failed.
         ensures cut { D.honest disk.new → HasRoom journal.new
             → LeavesAfterTurns (D.images disk.new) self.old journal.old result }
         ensures moments { D.honest disk.old
             → LeavesInTurns D.moment D.left_since disk.old disk.new self.old journal.old }
-        ensures honest { D.honest disk.new ↔ D.honest disk.old }
-        ensures cause { FailsByItsDisk (D.faults disk.old) (D.faults disk.new) result }
     {
         self.own_turns();
         self.keep(journal, disk)

@@ -86,6 +86,12 @@ module _ (site : Site) (kept : Retained) where
   grew_since_applied (Turned panel task ∷ before) = grew_in_tick (Turned panel task) before refl (grew_since_applied before)
   grew_since_applied (Kept failed ∷ before) = grew_in_tick (Kept failed) before refl (grew_since_applied before)
 
+  -- so what goes by all that was done goes by what of it is in force, where no later operation changes it
+  pub same_since_applied : {X : Type 0} (before : List Moment) (f : List Done → X)
+      → ((new : List Done) → AreFrom (tick_of before) new → f (new ++ applied site kept before) ≡ f (applied site kept before))
+      → f (done_so_far site kept before) ≡ f (applied site kept before)
+  same_since_applied before f later = let grew = grew_since_applied before in ap f grew.is ∙ later grew.new grew.from
+
 -- ---- what is left to Keep
 
 module _ (site : Site) (kept : Retained) (panel : ℕ) (before : List Moment) where

@@ -7,6 +7,7 @@ pub mod Applied
 pub mod EntriesKept
 pub mod Counts
 pub mod Settings
+pub mod TickDone
 -- what befalls a panel: what was told stays, turns, those of Decide, Hold and Supply, reports, an operation that comes in force
 pub mod Later
 pub mod Panels

@@ -1,5 +1,5 @@
 -- How many entries into the fire alarm condition there were of each panel, and how many of them are kept.
-use Rattle.std.specs.Prelude.{◌≡◌, ◌-◌, ◌<◌, ℕ, List, Some, slice_get, slice_index}
+use Rattle.std.specs.Prelude.{◌≡◌, ◌-◌, ◌<◌, ℕ, Bool, true, false, List, Some, slice_get, slice_index}
 use Rattle.site_types.specs.declared.retained.Retained.{Retained}
 use Rattle.site_types.specs.declared.site.Site.{Site}
 use Rattle.panel_conditions.specs.Changes.{ShowsAs}
@@ -16,6 +16,11 @@ pub record CountsFor (site : Site) (kept : Retained) (before : List Moment) (cou
   pub counted : (panel : ℕ) → IsPanel site.panels panel → slice_index counts.entries (panel - 1)
       ≡ counted_entries site kept (done_so_far site kept before) panel before
   pub counters : counts.counters ≡ (kept_after site kept before).counters
+
+-- what is kept of them after a turn of Keep, by what its journal keeps: unless it failed, these since opening
+abbrev pub counts_kept : Bool → List ℕ → Retained → KeptCounts → KeptCounts
+counts_kept true entries stored counts = counts
+counts_kept false entries stored counts = record { entries = entries; counters = stored.counters }
 
 -- by panel, what is left of entries that aren't counted yet
 abbrev pub AreLeft : List ℕ → List ℕ → List ℕ → Type 0

@@ -15,7 +15,7 @@ pub struct KeptCounts {
 }
 
 impl KeptCounts {
-    ghost use Rattle.panel_parts.specs.Entries.{AreLeft, CountsFor};
+    ghost use Rattle.panel_parts.specs.Entries.{AreLeft, CountsFor, counts_kept};
 
     /// What is kept at opening.
     pub fn at_opening(kept: &Retained) -> KeptCounts
@@ -36,6 +36,16 @@ impl KeptCounts {
             left[place] = left[place].saturating_sub(self.entries[place]);
         }
         left
+    }
+
+    /// Notes what is kept after a turn of Keep, unless it failed.
+    pub fn note(&mut self, failed: bool, entries: &[u64; 8], stored: &Retained)
+        ensures { self.new ≡ counts_kept failed entries.now stored.now self.old }
+    {
+        if !failed {
+            self.entries = *entries;
+            self.counters = stored.counters;
+        }
     }
 }
 

@@ -4,6 +4,7 @@ ghost use Rattle.site_types.specs.Changes.{IsNumber};
 ghost use Rattle.loop_poller.specs.Stands.{HasPoint};
 ghost use Rattle.panel_rules.specs.Moments.{IsPanel};
 
+use answer_lanes::Lane;
 use cause_effect::Plan;
 use coincidence::{Decide, Finding};
 use loop_poller::Poller;
@@ -14,7 +15,7 @@ use panel_effects::Effects;
 use site_types::{Answer, PieceState, PointState, Retained, Site, SupplyKind, mask_from_8};
 use std::alloc::Global;
 use supply_monitor::Supply;
-use tick_units::{Lane, NoMemory, Tick};
+use tick_units::{NoMemory, Tick};
 
 /// The parts of a panel, joined by lanes. Effect and what begins Drive's tick are called on the parts themselves.
 #[derive(Drop)]

@@ -30,7 +30,7 @@ use Rattle.panel_rules.proofs.Turns.{turn_lag, run_tail, tick_rises}
 use Rattle.panel_rules.proofs.AnswersTell.{told_by, eq_true}
 use Rattle.panel_rules.proofs.Held.{signal_counts, IsAtPanel, at_panel, round_counts}
 use Rattle.panel_rules.proofs.Pairing.{kind_of, Pairs, pairs_of, of_pairs, swapped, pair_panels}
-use Rattle.panel_rules.proofs.Signals.{Sure, sure_by, sure_since, by_call, by_rule, hand_releases, alarm_releases, TwoCount, two_in_order}
+use Rattle.panel_rules.proofs.Signals.{Sure, sure_by, sure_counted, sure_since, by_call, by_rule, hand_releases, alarm_releases, TwoCount, two_in_order}
 
 module _ (site : Site) (kept : Retained) (done : List Done) (moments past : List Moment) (panel zone : ℕ) (laid : IsLaidOut site) (run :
     IsRun site.panels moments) (before : IsPast past moments) (p : IsPanel site.panels panel) (home : panel_of_zone site zone ≡ panel) where
@@ -56,14 +56,7 @@ module _ (site : Site) (kept : Retained) (done : List Done) (moments past : List
   call_sure settled s late =
       let at = at_panel site zone panel s.point laid (parts _ _ s.calls).0 home in
       let c = round_counts site kept done moments past panel run before p s.point settled laid at s.begins late s.held in
-      record {
-        place = c.place;
-        answer = c.answer;
-        is = c.is;
-        from = c.from;
-        passes =
-            both _ _ c.counts (ap (λ q. is_by_call_point site zone q) c.point_is ∙ s.calls);
-      }
+      sure_counted c (both _ _ c.counts (ap (λ q. is_by_call_point site zone q) c.point_is ∙ s.calls))
 
   call_confirms : (settled : ℕ) → Sure (held_answers site panel past) settled (calls site kept done zone)
       → Sure (held_answers site panel past) settled (confirms site kept done (held_answers site panel past) zone)
@@ -81,21 +74,15 @@ module _ (site : Site) (kept : Retained) (done : List Done) (moments past : List
       let at = at_panel site zone panel s.point laid s.of_zone home in
       let c = round_counts site kept done moments past panel run before p s.point settled laid at s.begins late s.held in
       let of_zone : is_of site zone c.answer.point ≡ true = ap (λ q. is_of site zone q) c.point_is ∙ s.of_zone in
-      record {
-        place = c.place;
-        answer = c.answer;
-        is = c.is;
-        from = c.from;
-        passes =
-            elim (kind_of site zone c.answer.point of_zone) [
-              | inl m ↦ by_call site kept done xs zone c.answer c.counts (both _ _ of_zone m)
-              | inr d ↦
-                  elim s.rule [
-                    | inl r ↦ by_rule site kept done xs zone c.answer (Some Plain) r c.counts d of_zone
-                    | inr r ↦ by_rule site kept done xs zone c.answer (Some C) r c.counts d of_zone
-                  ]
-            ];
-      }
+      sure_counted c
+      (elim (kind_of site zone c.answer.point of_zone) [
+        | inl m ↦ by_call site kept done xs zone c.answer c.counts (both _ _ of_zone m)
+        | inr d ↦
+            elim s.rule [
+              | inl r ↦ by_rule site kept done xs zone c.answer (Some Plain) r c.counts d of_zone
+              | inr r ↦ by_rule site kept done xs zone c.answer (Some C) r c.counts d of_zone
+            ]
+      ])
 
   -- each answer of a point between two stamps counts, where the point signals throughout
   throughout : (point first last : ℕ) → ((tick : ℕ) → first ≤ tick → tick ≤ last → SignalsAt site kept done moments point tick)
@@ -208,16 +195,9 @@ module _ (site : Site) (kept : Retained) (done : List Done) (moments past : List
       let close =
       any_at (is_near site kept done within zone a) xs two.earlier.place two.earlier.answer two.earlier.is
       (nears within zone one other first last (tick_of moments) two begins l near differ other_of other_detects floor) in
-      record {
-        place = two.later.place;
-        answer = a;
-        is = two.later.is;
-        from = two.later.from;
-        passes =
-            by_rule site kept done xs zone a (Some (A verify within)) rule two.later.counts
-            (ap (λ q. is_detector site q) two.later.point_is ∙ one_detects)
-            (both _ _ (ap (λ q. is_of site zone q) two.later.point_is ∙ one_of) (either_right _ _ close));
-      }
+      sure_counted two.later
+      (by_rule site kept done xs zone a (Some (A verify within)) rule two.later.counts (ap (λ q. is_detector site q) two.later.point_is ∙ one_detects)
+      (both _ _ (ap (λ q. is_of site zone q) two.later.point_is ∙ one_of) (either_right _ _ close)))
 
   two_sure : (settled : ℕ) (s : DetectorsSignal site kept done moments zone (tick_of moments) settled)
       → settled + round_of site.format + 1 ≤ latest_turn panel Hold past
@@ -249,16 +229,10 @@ module _ (site : Site) (kept : Retained) (done : List Done) (moments past : List
         none_since (cancels z) first last a.stamp.0 done begins (omega (arith, two.later.by)) (cancellings z of_zone),
         two.earlier.from,
       )))) in
-      record {
-        place = two.later.place;
-        answer = a;
-        is = two.later.is;
-        from = two.later.from;
-        passes =
-            by_rule site kept done xs zone a (Some (B within)) rule two.later.counts (ap (λ q. is_detector site q) two.later.point_is ∙ one_detects)
-            (ap (λ q. pairs_up site zone q (λ near. list_any (is_uncancelled site kept done within near a) xs)) two.later.point_is
-            ∙ of_pairs site zone one other (λ near. list_any (is_uncancelled site kept done within near a) xs) test pairs);
-      }
+      sure_counted two.later
+      (by_rule site kept done xs zone a (Some (B within)) rule two.later.counts (ap (λ q. is_detector site q) two.later.point_is ∙ one_detects)
+      (ap (λ q. pairs_up site zone q (λ near. list_any (is_uncancelled site kept done within near a) xs)) two.later.point_is
+      ∙ of_pairs site zone one other (λ near. list_any (is_uncancelled site kept done within near a) xs) test pairs))
 
   pair_sure : (settled : ℕ) (s : PairSignals site kept done moments zone (tick_of moments) settled)
       → settled + round_of site.format + 1 ≤ latest_turn panel Hold past
@@ -292,13 +266,7 @@ module _ (site : Site) (kept : Retained) (done : List Done) (moments past : List
       both _ _ two.later.counts
       (ap (λ q. pairs_up site zone q (λ z. list_any (is_second site kept done z a) xs)) two.later.point_is
       ∙ of_pairs site zone one other (λ z. list_any (is_second site kept done z a) xs) test pairs) in
-      record {
-        place = two.later.place;
-        answer = a;
-        is = two.later.is;
-        from = two.later.from;
-        passes = ap (λ r. releases_by site kept done xs zone r a) rule ∙ either_right _ _ has;
-      }
+      sure_counted two.later (ap (λ r. releases_by site kept done xs zone r a) rule ∙ either_right _ _ has)
 
   second_sure : (settled : ℕ) (s : SecondSignals site kept done moments zone (tick_of moments) settled)
       → settled + round_of site.format + 1 ≤ latest_turn panel Hold past

@@ -29,6 +29,11 @@ pub sure_by : (xs : List Answer) (first : ℕ) (test other : Answer → Bool) �
 sure_by xs first test other more s =
     record { place = s.place; answer = s.answer; is = s.is; from = s.from; passes = more s.answer s.passes }
 
+-- one that counts, stamped in a span, is such an answer from its first tick on
+pub sure_counted : {site : Site} {kept : Retained} {done : List Done} {xs : List Answer} {point first last : ℕ} {test : Answer → Bool}
+    (c : Counts site kept done xs point first last) → test c.answer ≡ true → Sure xs first test
+sure_counted c passes = record { place = c.place; answer = c.answer; is = c.is; from = c.from; passes = passes }
+
 -- an answer from a tick on passes a test since the floor, which lies before that tick
 pub sure_since : (site : Site) (done : List Done) (xs : List Answer) (zone tick first : ℕ) (test : Answer → Bool)
     → floor_before site zone tick done < first → Sure xs first test → since_floor site done xs zone tick test ≡ true

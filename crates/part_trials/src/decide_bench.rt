@@ -2,12 +2,13 @@
 
 ghost use Rattle.std.specs.Prelude.{◌≡◌, true, IfOk};
 
+use answer_lanes::{Lane, take_items};
 use anyhow::{Result, bail};
 use arrayvec::ArrayVec;
 use coincidence::{Decide, Finding};
 use site_types::{Answer, Event, Operation, Retained, Site};
 use std::alloc::Global;
-use tick_units::{Lane, Tick};
+use tick_units::Tick;
 
 /// A Decide, and what lies before and behind it. It refuses an answer or an operation that may not come next.
 #[derive(Drop)]
@@ -122,8 +123,9 @@ impl DecideBench {
             bail!("no room for what is found");
         }
         self.decide.turn(&mut self.answers, &mut self.findings);
+        let mut runs = ArrayVec::new();
         let mut found = ArrayVec::new();
-        self.findings.take_turn(&mut found);
+        take_items(&mut self.findings, &mut runs, &mut found);
         Ok(found)
     }
 

@@ -4,12 +4,13 @@ ghost use Rattle.std.specs.Prelude.{◌≡◌};
 ghost use Rattle.site_types.specs.Valid.{IsValid};
 
 use crate::hold_step::HoldStep;
+use answer_lanes::Lane;
 use anyhow::{Result, bail};
 use face_text::Face;
 use panel_conditions::{Finding, Hold, Outside};
 use site_types::{Operation, Retained, Site};
 use std::alloc::Global;
-use tick_units::{Lane, Tick};
+use tick_units::Tick;
 use timeline_text::changes_of;
 use trial_cases::{History, Lines, say_zones};
 

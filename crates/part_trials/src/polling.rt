@@ -7,12 +7,13 @@ ghost use Rattle.loop_poller.specs.Calls.{Call};
 ghost use Rattle.loop_poller.specs.Stands.{StandsFor};
 
 use crate::poll_step::PollStep;
+use answer_lanes::{Lane, take_items};
 use anyhow::{Result, bail};
 use arrayvec::ArrayVec;
 use loop_poller::Poller;
 use site_types::{Answer, Heard, PieceState, PointState, Site};
 use std::alloc::Global;
-use tick_units::{Lane, Tick};
+use tick_units::Tick;
 use trial_cases::{History, Lines, say_point};
 
 /// The answers of each tick in which some point answers. What befalls points and cables in a tick comes
@@ -88,8 +89,9 @@ pub(crate) fn answers_at(alloc: Global, site: &Site, poller: &Poller, tick: u64)
         bail!("no memory");
     };
     ask(site, poller, tick, &mut lane);
+    let mut runs = ArrayVec::new();
     let mut answers = ArrayVec::new();
-    lane.take_turn(&mut answers);
+    take_items(&mut lane, &mut runs, &mut answers);
     tell_answers(alloc, site, tick, answers.as_slice())
 }
 

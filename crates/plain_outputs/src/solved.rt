@@ -43,7 +43,7 @@ fn evaluated(site: &Site, facts: &Facts, values: &Values) -> Values
 {
     let mut next = Values::none();
     for (place, marker) in site.markers.as_slice().iter().enumerate() {
-        next.marker[place] = is_met(site, facts, values, marker);
+        next.set(place as u8, is_met(site, facts, values, marker));
     }
     next
 }

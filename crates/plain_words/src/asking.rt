@@ -4,12 +4,13 @@ ghost use Rattle.panel_rules.specs.Moments.{Moment as MomentOf, tick_of};
 ghost use Rattle.panel_rules.specs.Zones.{held_answers};
 ghost use Rattle.plain_history.specs.Histories.{moment_of};
 
+use answer_lanes::{Lane, Run, take_items};
 use arrayvec::ArrayVec;
 use loop_poller::Poller;
 use plain_history::Moment;
 use site_types::{Answer, Event, PieceState, Point, PointState, Site};
 use std::alloc::Global;
-use tick_units::{Lane, NoMemory, Task, Tick};
+use tick_units::{NoMemory, Task, Tick};
 
 /// All answers of a panel's points, the oldest first, and how many of them the panel's Decide and Hold have taken.
 #[derive(Drop)]
@@ -151,8 +152,9 @@ impl Asking {
     {
         let mut lane: Lane<Answer> = Lane::new(alloc, 32, 32)?;
         self.poller.turn(tick, &mut lane);
+        let mut runs: ArrayVec<Run<Answer>, 32> = ArrayVec::new();
         let mut batch: ArrayVec<Answer, 32> = ArrayVec::new();
-        lane.take_turn(&mut batch);
+        take_items(&mut lane, &mut runs, &mut batch);
         self.answers.extend_from_slice(batch.as_slice())?;
         Ok(())
     }

@@ -61,7 +61,7 @@ impl Counter {
         })
     }
 
-    /// Starts the door at a port, and serves.
+    /// Starts the door at a port, and serves so many connections, or up to a stop, or until the door fails.
     pub fn serve<G: Door, D: Disk, R: Keeper>(
         &mut self,
         alloc: Global,
@@ -82,35 +82,9 @@ impl Counter {
             self.old.run self.new.run }
         ensures cause { BlamesDoor (G.faults door.old) (G.faults door.new) result }
     {
-        match door.start(port) {
-            Ok(()) => self.serve_all(alloc, count, door, disk, keeper),
-            Err(Failed) => ServingEnd {
-                served: 0,
-                failed: true,
-            },
-        }
-    }
-
-    // Serves so many connections, or up to a stop, or until the door fails.
-    fn serve_all<G: Door, D: Disk, R: Keeper>(
-        &mut self,
-        alloc: Global,
-        count: u32,
-        door: &mut G,
-        disk: &mut D,
-        keeper: &mut R,
-    ) -> ServingEnd
-        requires opened { IsOpened self.old }
-        requires count { IsCount count }
-        requires out { G.is_out door.old ≡ false }
-        requires stands { StandsOn D.honest D.images disk.old self.old.run.journal }
-        ensures serves { HasServedAll (worlds_of D.honest D.images D.moment D.left_since
-            R.tables R.faults disk.old disk.new keeper.old keeper.new)
-            (door_sides G.waiting G.handed door.old door.new) count self.old self.new result }
-        ensures disk { KeepsOn D.honest D.images D.faults disk.old disk.new
-            self.old.run self.new.run }
-        ensures cause { BlamesDoor (G.faults door.old) (G.faults door.new) result }
-    {
+        let Ok(()) = door.start(port) else {
+            return ServingEnd::at_door(0);
+        };
         let mut served = 0;
         let mut stopped = false;
         while served < count && !stopped {
@@ -119,18 +93,10 @@ impl Counter {
                     served += 1;
                     stopped = is_stop(what);
                 }
-                Err(Failed) => {
-                    return ServingEnd {
-                        served,
-                        failed: true,
-                    };
-                }
+                Err(Failed) => return ServingEnd::at_door(served),
             }
         }
-        ServingEnd {
-            served,
-            failed: false,
-        }
+        ServingEnd::whole(served)
     }
 
     // Serves the next connection and hands it back.

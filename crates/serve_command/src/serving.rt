@@ -10,7 +10,7 @@ ghost use Rattle.program_status.specs.Statuses.{IsSilentWithoutMemory};
 ghost use Rattle.program_status.specs.Statuses.{number_of};
 ghost use Rattle.retained_journal.specs.Images.{Stands as StandsOn};
 ghost use Rattle.serve_command.specs.Serving.{AnswersServe, ServesFrom, ServesOver};
-ghost use Rattle.serving_ends.specs.Ends.{BlamesStores, IsCount};
+ghost use Rattle.serving_ends.specs.Ends.{BlamesServing, BlamesStores, IsCount};
 ghost use Rattle.site_commands.specs.Files.{files_of};
 ghost use Rattle.site_commands.specs.Sites.{IsLoaded};
 ghost use Rattle.site_run.specs.Journals.{IsOpenFor};
@@ -82,19 +82,17 @@ fn serve_loaded<K: Sink, D: Disk, G: Door, R: Keeper>(
         D.moment D.left_since disk.old disk.new) (door_sides G.waiting G.handed door.old door.new)
         (sides_of R.tables R.faults keeper.old keeper.new)
         count (K.written out.old) (K.written out.new) result }
+    ensures blames { BlamesServing result (D.faults disk.old) (D.faults disk.new)
+        (G.faults door.old) (G.faults door.new) }
     ensures read { result.status ≢ number_of Status.ReadFault }
     ensures write { BlamesWrites result (K.write_faults out.old) (K.write_faults out.new) }
     ensures memory { IsSilentWithoutMemory result (K.written out.old) (K.written out.new) }
-    ensures disk { BlamesDisk result (D.faults disk.old) (D.faults disk.new) }
-    ensures stores { BlamesStores result (D.faults disk.old) (D.faults disk.new) }
-    ensures door { result.status ≡ number_of Status.DoorFault
-        → Rose (G.faults door.old) (G.faults door.new) }
 {
     let Loaded { site, plan, digest } = loaded;
     match Journal::open(disk, digest, site.format == 2) {
         Ok((journal, _)) => {
             serve_with(
-                alloc, site, plan, journal, port, count, out, disk, door, keeper,
+                alloc, site, plan, port, count, journal, out, disk, door, keeper,
             )
         }
         Err(refusal) => stop_at_journal(&refusal, out),
@@ -106,9 +104,9 @@ fn serve_with<K: Sink, D: Disk, G: Door, R: Keeper>(
     alloc: Global,
     site: Site,
     plan: Plan,
-    journal: Journal,
     port: u16,
     count: u32,
+    journal: Journal,
     out: &mut K,
     disk: &mut D,
     door: &mut G,

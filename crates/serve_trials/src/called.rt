@@ -1,5 +1,7 @@
 ghost use Rattle.std.specs.Prelude.{◌≡◌, false, IfOk};
 
+use crate::inputs::said_answer;
+use crate::options::option_or;
 use crate::outside::Outside;
 use crate::trial::Trial;
 use anyhow::{Result, bail};
@@ -18,7 +20,7 @@ const MOST_ANSWER: usize = 4_000;
 pub(crate) struct Called {
     pub(crate) outcome: Outcome,
     pub(crate) text: String,
-    /// What each connection was answered, those too that the door didn't give.
+    /// What each connection was answered, those too that the door didn't give; by a panel by itself, in words.
     pub(crate) answers: Vec<String>,
     /// How many connections the door gave.
     pub(crate) given: usize,
@@ -34,27 +36,34 @@ impl Called {
     }
 }
 
-/// Serves the requests of a trial.
+/// Serves the requests of a trial: all of them, where it doesn't say how many.
 pub(crate) fn serve(alloc: Global, trial: &Trial, outside: Outside) -> Result<Called> {
-    let count = match outside.count {
-        0 => trial.requests.len().max(1) as u64,
-        count => count,
+    let all = format!(in alloc; "{}", trial.requests.len().max(1))?;
+    let port = option_or(trial.options, "port", "8080");
+    let count = option_or(trial.options, "count", all.as_str());
+    let words = if trial.is_node() {
+        words_of(
+            alloc,
+            &["node", trial.name, "journal", trial.panel, port, count],
+        )?
+    } else {
+        words_of(alloc, &["serve", trial.name, "journal", port, count])?
     };
-    let mut words = Vec::new(alloc);
-    for word in ["serve", trial.name, "journal", "8080"] {
-        words.push(String::from_str(alloc, word)?)?;
-    }
-    words.push(format!(in alloc; "{count}")?)?;
     call(alloc, words.as_slice(), trial, b"", outside)
 }
 
 /// Runs the site of a trial over a record.
 pub(crate) fn run(alloc: Global, trial: &Trial, record: &[u8]) -> Result<Called> {
+    let words = words_of(alloc, &["run", trial.name, "journal"])?;
+    call(alloc, words.as_slice(), trial, record, trial.outside)
+}
+
+fn words_of(alloc: Global, list: &[&str]) -> Result<Vec<String>> {
     let mut words = Vec::new(alloc);
-    for word in ["run", trial.name, "journal"] {
+    for word in list {
         words.push(String::from_str(alloc, word)?)?;
     }
-    call(alloc, words.as_slice(), trial, record, trial.outside)
+    Ok(words)
 }
 
 // Calls `panel` over forms in memory, with an empty register.
@@ -96,7 +105,7 @@ fn call(
     Ok(Called {
         outcome,
         text: String::from_utf8(text)?,
-        answers: answers_of(alloc, conns)?,
+        answers: answers_of(alloc, trial, conns)?,
         given,
         journal,
         tables,
@@ -146,12 +155,16 @@ fn conn_of(alloc: Global, request: &[u8], read: u64, write: u64) -> Result<Memor
 }
 
 // What was written to each connection.
-fn answers_of(alloc: Global, conns: Vec<MemoryConn>) -> Result<Vec<String>> {
+fn answers_of(alloc: Global, trial: &Trial, conns: Vec<MemoryConn>) -> Result<Vec<String>> {
     let mut answers = Vec::new(alloc);
     for conn in conns {
         let MemoryConn { output, .. } = conn;
         let MemorySink { bytes, .. } = output;
-        answers.push(String::from_utf8(bytes)?)?;
+        answers.push(if trial.is_node() {
+            said_answer(alloc, &trial.digest, bytes.as_slice())?
+        } else {
+            String::from_utf8(bytes)?
+        })?;
     }
     Ok(answers)
 }

@@ -16,7 +16,9 @@ pub(crate) fn try_day(rt: &HostRuntime, case: &Case) -> Result<String> {
     let record = fs::read_to_string(rt, case.rest).context(format_args!("reading {}", case.rest))?;
     let trial = Trial {
         name: case.subject,
+        panel: "",
         site: fs::read(rt, case.subject).ok(),
+        digest: [0; 32],
         journal: Vec::new(alloc),
         requests: posts_of(alloc, record.as_str())?,
         outside: SOUND,

@@ -17,7 +17,7 @@ pub(crate) fn try_failing(alloc: Global, trial: &Trial, edge: Edge) -> Result<St
         let called = serve(alloc, trial, trial.outside.failing(edge, number))?;
         lines.count("    ", number);
         lines.say(": ");
-        lines.say(told_short(alloc, &called)?.as_str());
+        lines.say(told_short(alloc, trial, &called)?.as_str());
         lines.say("\n");
     }
     lines.done()

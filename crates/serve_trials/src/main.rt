@@ -1,14 +1,19 @@
-//! Trials of serving a site: the call `panel` over connections, a register and a journal in memory.
+//! Trials of serving a site, or a panel of one by itself: the call `panel` over connections, a register and a journal
+//! in memory.
 //!
 //! `Kind` of src/kind has the kinds of cases, and the head of trial_cases how a list of cases is written; `request_of`
-//! of src/requests says how a request is. The files of data/ are sites, a record and what comes over a connection, byte
-//! for byte. An answer is told with the lines of its head in one line, and those of its body below.
+//! of src/requests says how a request is, `input_of` of src/inputs what comes to a panel by itself. The files of data/
+//! are sites, a record and what comes over a connection, byte for byte. An answer is told with the lines of its head in
+//! one line, and those of its body below; one of a panel by itself in one line, a frame in the words of src/frames.
 #![tactic(auto)]
 
 mod called;
 mod days;
 mod edge;
 mod failing;
+mod frame_draft;
+mod frames;
+mod inputs;
 mod kind;
 mod options;
 mod outside;
@@ -40,5 +45,5 @@ fn answer(rt: &HostRuntime, kind: Kind, case: &Case) -> Result<String> {
 fn try_serving(rt: &HostRuntime, case: &Case) -> Result<String> {
     let trial = Trial::of_case(rt, case)?;
     let called = serve(rt.alloc(), &trial, trial.outside)?;
-    telling::told(rt.alloc(), &called)
+    telling::told(rt.alloc(), &trial, &called)
 }

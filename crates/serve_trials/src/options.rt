@@ -6,7 +6,6 @@ use anyhow::Result;
 /// The outside that the options speak of: the number of the call that fails behind the name of its edge.
 pub(crate) fn outside_of(options: &str) -> Result<Outside> {
     let mut outside = SOUND;
-    outside.count = number_of(options, "count")?;
     outside.keeper = number_of(options, "keeper")?;
     outside.door = number_of(options, "door")?;
     outside.disk = number_of(options, "disk")?;
@@ -31,6 +30,14 @@ pub(crate) fn option<'a>(options: &'a str, word: &str) -> &'a str {
         }
     }
     ""
+}
+
+/// The same, or another where no part begins with it.
+pub(crate) fn option_or<'a>(options: &'a str, word: &str, other: &'a str) -> &'a str {
+    match option(options, word) {
+        "" => other,
+        given => given,
+    }
 }
 
 /// The first and the last of a range such as `1 to 120`.

@@ -3,8 +3,6 @@ use crate::edge::Edge;
 /// How the outside takes the calls that are made of it. A call that fails is given by its number, from 1; 0 is none.
 #[derive(Clone, Copy)]
 pub(crate) struct Outside {
-    /// How many connections are served at most. With 0 these are as many as there are.
-    pub(crate) count: u64,
     pub(crate) keeper: u64,
     /// The read and the write that fail of the first connection.
     pub(crate) read: u64,
@@ -15,9 +13,8 @@ pub(crate) struct Outside {
     pub(crate) telling: u64,
 }
 
-/// One that never fails and serves all connections.
+/// One that never fails.
 pub(crate) const SOUND: Outside = Outside {
-    count: 0,
     keeper: 0,
     read: 0,
     write: 0,

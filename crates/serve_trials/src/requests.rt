@@ -25,13 +25,16 @@ pub(crate) fn post_of(alloc: Global, block: &str) -> Result<Vec<u8>> {
     spelled(alloc, "POST", "/v1/ticks", block)
 }
 
-// The block whose lines have `, ` between them.
-fn block_of(alloc: Global, words: &str) -> Result<String> {
+/// The block whose lines have `, ` between them. `3 times LINE` is one line three times.
+pub(crate) fn block_of(alloc: Global, words: &str) -> Result<String> {
     let mut lines = Lines::new(alloc);
     if !words.is_empty() {
-        for line in words.split(", ") {
-            lines.say(line);
-            lines.say("\n");
+        for part in words.split(", ") {
+            let (times, line) = part.split_once(" times ").unwrap_or(("1", part));
+            for _time in 0..times.parse::<u16>()? {
+                lines.say(line);
+                lines.say("\n");
+            }
         }
     }
     lines.done()

@@ -1,13 +1,14 @@
 //! What is told of a call.
 
 use crate::called::Called;
+use crate::trial::Trial;
 use anyhow::Result;
 use service_keepers::MemoryTables;
 use std::alloc::Global;
 use trial_cases::Lines;
 
 /// The text of a call, what each connection was answered, and what the register keeps.
-pub(crate) fn told(alloc: Global, called: &Called) -> Result<String> {
+pub(crate) fn told(alloc: Global, trial: &Trial, called: &Called) -> Result<String> {
     let mut lines = Lines::new(alloc);
     lines.say("    ");
     say_outcome(&mut lines, called);
@@ -16,10 +17,13 @@ pub(crate) fn told(alloc: Global, called: &Called) -> Result<String> {
     for (place, answer) in called.answers.iter().enumerate() {
         lines.count("    ", (place as u64).saturating_add(1));
         lines.say(": ");
-        if place < called.given {
-            say_answer(&mut lines, answer.as_str());
-        } else {
+        if place >= called.given {
             lines.say("not given\n");
+        } else if trial.is_node() {
+            lines.say(answer.as_str());
+            lines.say("\n");
+        } else {
+            say_answer(&mut lines, answer.as_str());
         }
     }
     say_tables(&mut lines, &called.tables);
@@ -27,7 +31,7 @@ pub(crate) fn told(alloc: Global, called: &Called) -> Result<String> {
 }
 
 /// The same on one line, of each answer the status and the lines of the body.
-pub(crate) fn told_short(alloc: Global, called: &Called) -> Result<String> {
+pub(crate) fn told_short(alloc: Global, trial: &Trial, called: &Called) -> Result<String> {
     let mut lines = Lines::new(alloc);
     say_outcome(&mut lines, called);
     for line in called.text.as_str().lines() {
@@ -37,7 +41,11 @@ pub(crate) fn told_short(alloc: Global, called: &Called) -> Result<String> {
         if place < called.given {
             lines.count("; ", (place as u64).saturating_add(1));
             lines.say(": ");
-            say_answer_short(&mut lines, answer.as_str());
+            if trial.is_node() {
+                lines.say(answer.as_str());
+            } else {
+                say_answer_short(&mut lines, answer.as_str());
+            }
         }
     }
     if !called.tables.visits.is_empty() {

@@ -2,6 +2,7 @@
 use Rattle.std.specs.Prelude.{◌≡◌, ◌+◌, ◌-◌, ◌^◌, ◌<◌, ◌≤◌, ℕ, false, true, List, ◌++◌, Option, codes, decimal}
 use Rattle.panel_edges.specs.Faults.{Rose}
 use Rattle.program_status.specs.Sayings.{Says}
+use Rattle.program_status.specs.Statuses.{BlamesDisk, number_of}
 use Rattle.program_status.specs.declared.outcome.Outcome.{Outcome}
 use Rattle.program_status.specs.declared.status.Status.TheVariants.{Done, DoorFault}
 use Rattle.serving_ends.specs.declared.serving_end.ServingEnd.{ServingEnd}
@@ -32,3 +33,10 @@ pub record BlamesDoor (before after : ℕ) (end : ServingEnd) : Type 0 where
 pub record BlamesStores (outcome : Outcome) (before after : ℕ) : Type 0 where
   pub later : before ≤ after
   pub failed : after < 2 ^ 64 - 1 → outcome.store_failures + before ≤ after
+
+-- the outcome is a disk fault or a door fault only where the count of the disk or of the door has risen, and the failed
+-- ticks are no more than the disk's count rose by
+pub record BlamesServing (outcome : Outcome) (disk_old disk_new door_old door_new : ℕ) : Type 0 where
+  pub disk : BlamesDisk outcome disk_old disk_new
+  pub stores : BlamesStores outcome disk_old disk_new
+  pub door : outcome.status ≡ number_of DoorFault → Rose door_old door_new

@@ -44,6 +44,9 @@ abbrev pub Checks : Option (List ℕ) → Option (List ℕ) → Outcome → Resu
 Checks old new outcome (Ok site) = Tells exit.Done (counts_line site) old new outcome
 Checks old new outcome (Err stop) = Tells (stop_status stop) (stop_text stop) old new outcome
 
+abbrev pub AnswersCheck : List ℕ → Files → Option (List ℕ) → Option (List ℕ) → Outcome → Type 0
+AnswersCheck name files old new outcome = AnswersOver files name (λ digest. Checks old new outcome)
+
 -- The matrix tells which outputs each zone asks for, or why there is no site. Where memory ran out it ends so
 -- and has written nothing. When memory is ample no clause can say, so this alone allows such an answer for
 -- every site: trials ask for it with ample memory.
@@ -51,3 +54,6 @@ abbrev pub Draws : Option (List ℕ) → Option (List ℕ) → Outcome → Resul
 Draws old new outcome (Ok site) =
     RanNothing old new outcome ⊎ ((text : List ℕ) × IsMatrix site text × Tells exit.Done text old new outcome)
 Draws old new outcome (Err stop) = Tells (stop_status stop) (stop_text stop) old new outcome
+
+abbrev pub AnswersMatrix : List ℕ → Files → Option (List ℕ) → Option (List ℕ) → Outcome → Type 0
+AnswersMatrix name files old new outcome = AnswersOver files name (λ digest. Draws old new outcome)

@@ -1,12 +1,11 @@
 //! The commands that read a site file and nothing else.
 
-ghost use Rattle.std.specs.Prelude.{◌≡◌, ◌≢◌, IfSome, Ok};
+ghost use Rattle.std.specs.Prelude.{◌≡◌, ◌≢◌, Ok};
 ghost use Rattle.cause_effect.specs.Stands.{IsPlanOf};
-ghost use Rattle.panel_edges.specs.Faults.{Rose};
-ghost use Rattle.panel_edges.specs.Shelves.{file_of};
 ghost use Rattle.program_status.specs.Statuses.{BlamesReads, BlamesWrites, IsSilentWithoutMemory};
 ghost use Rattle.program_status.specs.Statuses.{number_of};
-ghost use Rattle.site_commands.specs.Commands.{AnswersBy, Checks, Draws};
+ghost use Rattle.site_commands.specs.Commands.{AnswersCheck, AnswersMatrix, Draws};
+ghost use Rattle.site_commands.specs.Files.{files_of};
 ghost use Rattle.site_types.specs.Valid.{IsValid};
 
 use crate::counts::counts_line;
@@ -26,22 +25,19 @@ pub fn tell_counts<F: Shelf, K: Sink>(
     shelf: &mut F,
     out: &mut K,
 ) -> Outcome
-    ensures answers { IfSome (F.files shelf.old) (λ held. AnswersBy
-        (Rose (F.faults shelf.old) (F.faults shelf.new)) (file_of name.now held)
-        (Checks (K.written out.old) (K.written out.new) result)) }
+    ensures answers { AnswersCheck name.now (files_of F.files F.faults shelf.old shelf.new)
+        (K.written out.old) (K.written out.new) result }
     ensures read { BlamesReads result (F.faults shelf.old) (F.faults shelf.new) }
     ensures write { BlamesWrites result (K.write_faults out.old) (K.write_faults out.new) }
     ensures memory { IsSilentWithoutMemory result (K.written out.old) (K.written out.new) }
-    ensures disk { result.status ≢ number_of Status.DiskFault }
-    ensures store { result.store_failures ≡ 0 }
+    ensures disk { (result.status ≢ number_of Status.DiskFault) × (result.store_failures ≡ 0) }
 {
-    match load(alloc, name, shelf) {
-        Ok(loaded) => {
-            let line = counts_line(&loaded.site);
-            say(line.as_str().as_bytes(), Status::Done, 0, out)
-        }
-        Err(stop) => stop_with(&stop, out),
-    }
+    let loaded = match load(alloc, name, shelf) {
+        Ok(loaded) => loaded,
+        Err(stop) => return stop_with(&stop, out),
+    };
+    let line = counts_line(&loaded.site);
+    say(line.as_str().as_bytes(), Status::Done, 0, out)
 }
 
 /// Tells which outputs each zone asks for where it alone is released, or why the site is refused.
@@ -51,14 +47,12 @@ pub fn tell_matrix<F: Shelf, K: Sink>(
     shelf: &mut F,
     out: &mut K,
 ) -> Outcome
-    ensures answers { IfSome (F.files shelf.old) (λ held. AnswersBy
-        (Rose (F.faults shelf.old) (F.faults shelf.new)) (file_of name.now held)
-        (Draws (K.written out.old) (K.written out.new) result)) }
+    ensures answers { AnswersMatrix name.now (files_of F.files F.faults shelf.old shelf.new)
+        (K.written out.old) (K.written out.new) result }
     ensures read { BlamesReads result (F.faults shelf.old) (F.faults shelf.new) }
     ensures write { BlamesWrites result (K.write_faults out.old) (K.write_faults out.new) }
     ensures memory { IsSilentWithoutMemory result (K.written out.old) (K.written out.new) }
-    ensures disk { result.status ≢ number_of Status.DiskFault }
-    ensures store { result.store_failures ≡ 0 }
+    ensures disk { (result.status ≢ number_of Status.DiskFault) × (result.store_failures ≡ 0) }
 {
     match load(alloc, name, shelf) {
         Ok(loaded) => draw(alloc, &loaded.site, &loaded.plan, out),
@@ -74,8 +68,7 @@ fn draw<K: Sink>(alloc: Global, site: &Site, plan: &Plan, out: &mut K) -> Outcom
     ensures read { result.status ≢ number_of Status.ReadFault }
     ensures write { BlamesWrites result (K.write_faults out.old) (K.write_faults out.new) }
     ensures memory { IsSilentWithoutMemory result (K.written out.old) (K.written out.new) }
-    ensures disk { result.status ≢ number_of Status.DiskFault }
-    ensures store { result.store_failures ≡ 0 }
+    ensures disk { (result.status ≢ number_of Status.DiskFault) × (result.store_failures ≡ 0) }
 {
     match matrix_of(alloc, site, plan) {
         Ok(text) => say(text.as_slice(), Status::Done, 0, out),

@@ -16,10 +16,11 @@ use Rattle.access_levels.specs.Levels.{level_of}
 use Rattle.panel_rules.specs.Moments.{Moment, Happened, tick_of}
 use Rattle.panel_rules.specs.Operations.{operations, request_of, requests, requests_in}
 use Rattle.panel_rules.specs.Timeline.{busy_count}
+use Rattle.panel_parts.specs.Stands.{PanelStands}
 use Rattle.panel_parts.specs.declared.parts.Parts.{Parts}
 use Rattle.panel_core.specs.declared.system.System.{System}
 use Rattle.panel_core.specs.Marks.{AreMarked}
-use Rattle.panel_core.specs.Stands.{StandsFor, StandsInRing}
+use Rattle.panel_core.specs.Stands.{StandsFor}
 
 module _ (site : Site) (kept : Retained) (panel : ℕ) (operation : Operation) (before : List Moment) where
   abbrev with_code : Option ArrayString → List Moment
@@ -30,6 +31,28 @@ module _ (site : Site) (kept : Retained) (panel : ℕ) (operation : Operation) (
   bytes_same None = refl
   bytes_same (Some label) = refl
 
+  -- a panel of the site stands for the same with any code
+  pub parts_viewed : (one other : Option ArrayString) (done : List Done) (told : _) (at : ℕ) (parts : Parts)
+      → PanelStands site kept done told at (with_code one) parts → PanelStands site kept done told at (with_code other) parts
+  parts_viewed one other done told at parts h =
+      record {
+        member = h.member;
+        polls = h.polls;
+        answers = h.answers;
+        decides = h.decides;
+        findings = h.findings;
+        holds = h.holds;
+        supplies = h.supplies;
+        effects = record { masks = h.effects.masks; normal = h.effects.normal; manual = h.effects.manual; requests = h.effects.requests };
+        drives = record {
+          silence = h.drives.silence;
+          delays = h.drives.delays;
+          routing = h.drives.routing;
+          on = h.drives.on;
+          sounders = h.drives.sounders;
+        };
+      }
+
   module _ (code : Option ArrayString) where
     abbrev viewed : Option ArrayString
     viewed = option_map label_view code
@@ -37,27 +60,6 @@ module _ (site : Site) (kept : Retained) (panel : ℕ) (operation : Operation) (
     requests_same : requests site (with_code code) ≡ requests site (with_code viewed)
     requests_same =
         ap (λ b. requests site before ++ request_of (tick_of before) panel (level_of site b) operation (requests site before) ∷ []) (bytes_same code)
-
-    panel_viewed : (done : List Done) (at : ℕ) (parts : Parts) → StandsInRing site kept done at (with_code code) parts
-        → StandsInRing site kept done at (with_code viewed) parts
-    panel_viewed done at parts h =
-        record {
-          member = h.member;
-          polls = h.polls;
-          answers = h.answers;
-          decides = h.decides;
-          findings = h.findings;
-          holds = h.holds;
-          supplies = h.supplies;
-          effects = record { masks = h.effects.masks; normal = h.effects.normal; manual = h.effects.manual; requests = h.effects.requests };
-          drives = record {
-            silence = h.drives.silence;
-            delays = h.drives.delays;
-            routing = h.drives.routing;
-            on = h.drives.on;
-            sounders = h.drives.sounders;
-          };
-        }
 
     pub desk_viewed : (desk : Desk) → DesksFor site kept (with_code code) desk → DesksFor site kept (with_code viewed) desk
     desk_viewed desk h =
@@ -82,7 +84,7 @@ module _ (site : Site) (kept : Retained) (panel : ℕ) (operation : Operation) (
           plan = record { is = h.plan.is; free = h.plan.free };
           tick = h.tick;
           count = h.count;
-          each = λ place parts is. panel_viewed _ (place + 1) parts (h.each place parts is);
+          each = λ place parts is. parts_viewed code viewed _ _ (place + 1) parts (h.each place parts is);
           ring = h.ring;
           events = (h.events.0, h.events.1);
           desk = desk_viewed system.desk h.desk;

@@ -3,10 +3,13 @@ use Rattle.std.proofs.Common.{◌≡◌, ◌<◌, ◌≤◌, ◌∙◌, ◌+◌,
 use Rattle.std.specs.List.{range_with_len}
 use Rattle.std.proofs.lemmas.List.{take_all}
 use Rattle.std.proofs.lemmas.Option.{slice_get-get_or}
+use Rattle.site_types.specs.declared.retained.Retained.{Retained}
 use Rattle.site_types.specs.declared.site.Site.{Site}
 use Rattle.face_text.specs.declared.face.Face.{Face}
 use Rattle.face_text.specs.Changes.{changes_text}
 use Rattle.face_text.specs.Timelines.{faces_text}
+use Rattle.panel_rules.specs.Moments.{Moment}
+use Rattle.panel_rules.specs.Timeline.{face_of}
 
 some_is : (a b : Face) → Some a ≡ Some b → a ≡ b
 some_is a b e = cc
@@ -37,6 +40,10 @@ pub faces_on : (site : Site) (before after : List Face) (k : ℕ) (face : Face) 
     ≡ faces_text site (take k before) (take k after) ++ changes_text site (get_or before k face) (get_or after k face)
 faces_on site before after k face same less =
     faces_more site before after k _ _ (slice_get-get_or before k face (omega (arith, less, same))) (slice_get-get_or after k face (omega (arith, less)))
+
+-- the first faces of a list are those of the rules
+abbrev pub ShowsFirst : Site → Retained → List Moment → ℕ → List Face → Type 0
+ShowsFirst site kept before k faces = take k faces ≡ map (λ panel. face_of site kept panel before) (range_with_len 1 k)
 
 -- a list in which the faces of all panels were put is those faces
 pub all_put : {most : ℕ} (faces : List Face) (of : ℕ → Face) (k panels : ℕ) → length faces ≡ most → k ≤ most → most ≡ panels → most ≤ k

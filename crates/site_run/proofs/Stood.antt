@@ -119,22 +119,22 @@ told_by site kept ticks None old event system h open_is stands marks short = not
 told_by site kept ticks (Some block) old event system h open_is stands marks short =
     let more = sym (events_more block.events event (Began ∷ moments ticks)) in
     record {
-      valid = h.valid;
-      counters = h.counters;
       system = subst (λ ms. SystemStands site kept ms system) more stands;
       journal = subst (λ ms. KeepsRun site kept ms old.journal) more (record { keeps = h.journal.keeps; wide = h.journal.wide; torn = h.journal.torn });
-      tried = h.tried;
+      marks = subst (λ ms. AreMarked site kept ms system.changed) more marks;
+      short = short;
+      valid = h.valid;
+      counters = h.counters;
       open_is = h.open_is;
-      canonical = h.canonical;
       order_is = h.order_is;
       ordered = h.ordered;
+      canonical = h.canonical;
       shown = h.shown;
-      marks = subst (λ ms. AreMarked site kept ms system.changed) more marks;
       room = h.room;
       count = h.count;
-      failed = h.failed;
       few = h.few;
-      short = short;
+      tried = h.tried;
+      failed = h.failed;
     }
 
 -- an event comes in an open tick

@@ -14,11 +14,15 @@ module _ {D : Type 0} (honest : D → Type 0) (images : D → List ℕ → Type 
     pub early : IsEarly before → IsEarly journal
     pub cause : FailsByItsDisk (faults old) (faults new) store
 
-  -- over some steps of a run: the failed ticks rise at most with the disk's count of faults, unless that stands at its
-  -- last value
-  pub record KeepsOn (before after : Run) : Type 0 where
-    pub stands : StandsOn honest images new after.journal
-    pub digest : after.journal.digest ≡ before.journal.digest
-    pub early : IsEarly before.journal → IsEarly after.journal
+  -- over some steps: the journal stands on the disk, as that of the same site, and the failed ticks rise at most with
+  -- the disk's count of faults, unless that stands at its last value
+  pub record KeepsJournal (before after : Journal) (failed failed' : ℕ) : Type 0 where
+    pub stands : StandsOn honest images new after
+    pub digest : after.digest ≡ before.digest
+    pub early : IsEarly before → IsEarly after
     pub later : faults old ≤ faults new
-    pub blames : faults new < 2 ^ 64 - 1 → after.store_failures + faults old ≤ before.store_failures + faults new
+    pub blames : faults new < 2 ^ 64 - 1 → failed' + faults old ≤ failed + faults new
+
+  -- over some steps of a run
+  abbrev pub KeepsOn : Run → Run → Type 0
+  KeepsOn before after = KeepsJournal before.journal after.journal before.store_failures after.store_failures

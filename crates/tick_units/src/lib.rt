@@ -1,5 +1,5 @@
-//! The vocabulary of a tick: its number, the seats that have a turn in it, the order of these turns, the
-//! lanes that lead from one task to the next, and values that change at a tick.
+//! The vocabulary of a tick: its number, the seats that have a turn in it, the order of these turns, and values
+//! that change at a tick.
 //!
 //! A panel's time is counted in ticks. A tick begins, takes its events, and then gives each seat one turn. A
 //! [`Seat`] is a [`Task`] of a panel; Keep is one seat for the whole site. Begin with [`Order`], the list of all
@@ -7,17 +7,16 @@
 //! seats, and else says what is wrong with it and where. [`Order::canonical`] makes the order of a tick for
 //! which none is given.
 //!
-//! A [`Lane`] is the queue between two tasks. Contracts see it as the list of what lies in it, with how many
-//! items were ever put and taken. A [`Switch`] tells the value that it had before the tick in which it was set,
-//! and the value after, a [`LastDone`] the tick in which something was done last. [`Items`] is a list in plain data.
+//! A [`Switch`] tells the value that it had before the tick in which it was set, and the value after, a
+//! [`LastDone`] the tick in which something was done last. [`Items`] is a list in plain data. What lies in a queue
+//! between two tasks, with how many items were ever put and taken, is a definition, `LaneState`.
 //!
-//! [`Lane::new`] alone takes memory, and answers [`NoMemory`] where it is refused. All other calls take a time
-//! that doesn't depend on a site, but for [`Order::new`], which looks at each seat once; of a list that is
-//! refused since a seat is missing, it compares each seat of the site with the list.
+//! No call takes memory; [`NoMemory`] is what calls above answer where it is refused. All calls take a time that
+//! doesn't depend on a site, but for [`Order::new`], which looks at each seat once; of a list that is refused since
+//! a seat is missing, it compares each seat of the site with the list.
 #![tactic(auto)]
 
 mod items;
-mod lane;
 mod last_done;
 mod memory;
 mod order;
@@ -29,7 +28,6 @@ mod task;
 mod tick;
 
 pub use items::Items;
-pub use lane::Lane;
 pub use last_done::LastDone;
 pub use memory::NoMemory;
 pub use order::Order;

@@ -8,6 +8,7 @@ ghost use Rattle.face_text.specs.Spelled.{panel_spelled, plain_spelled, reply_sp
 use crate::op_answer::OpAnswer;
 use crate::reading::change::Change;
 use crate::reading::entry::Entry;
+use crate::reading::guesses::Guesses;
 use crate::reading::thing_reading::{read_thing, truth_place};
 use crate::reply::Reply;
 use line_fields::{field, is_word, read_count, read_octet, read_truth};
@@ -15,19 +16,19 @@ use site_types::{Buzzer, Site, read_number};
 use tick_units::Tick;
 
 /// The one entry that a line may be that of, if there is one.
-pub fn candidate(site: &Site, text: &[u8]) -> Option<Entry>
+pub fn candidate(site: &Site, guesses: &Guesses, text: &[u8]) -> Option<Entry>
     requires { IsValid site.now }
     ensures entry { result ≡ entry_spelled site.now text.now }
     ensures numbers { IfSome result IsOf64Bits }
 {
     match read_octet(field(text, 0)) {
-        Some(panel) => read_panel_line(site, panel, text),
+        Some(panel) => read_panel_line(site, guesses, panel, text),
         None => read_plain_line(text),
     }
 }
 
 // A line of a panel.
-fn read_panel_line(site: &Site, panel: u8, text: &[u8]) -> Option<Entry>
+fn read_panel_line(site: &Site, guesses: &Guesses, panel: u8, text: &[u8]) -> Option<Entry>
     requires { IsValid site.now }
     ensures entry { result ≡ panel_spelled site.now panel text.now }
     ensures numbers { IfSome result IsOf64Bits }
@@ -36,7 +37,7 @@ fn read_panel_line(site: &Site, panel: u8, text: &[u8]) -> Option<Entry>
         let count = read_number(field(text, 2))?;
         Some(Entry::Busy { panel, count })
     } else {
-        let change = read_change(site, text)?;
+        let change = read_change(site, guesses, text)?;
         Some(Entry::Change { panel, change })
     }
 }
@@ -62,7 +63,7 @@ fn read_plain_line(text: &[u8]) -> Option<Entry>
     }
 }
 
-fn read_change(site: &Site, text: &[u8]) -> Option<Change>
+fn read_change(site: &Site, guesses: &Guesses, text: &[u8]) -> Option<Change>
     requires { IsValid site.now }
     ensures { result ≡ change_spelled site.now text.now }
 {
@@ -77,7 +78,7 @@ fn read_change(site: &Site, text: &[u8]) -> Option<Change>
         let count = read_count(field(text, 2))?;
         Some(Change::Counter(count))
     } else {
-        let thing = read_thing(site, word, field(text, 2), field(text, 3))?;
+        let thing = read_thing(site, guesses, word, field(text, 2), field(text, 3))?;
         let on = read_truth(field(text, truth_place(thing.group)))?;
         Some(Change::Thing {
             group: thing.group,

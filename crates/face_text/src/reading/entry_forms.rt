@@ -1,6 +1,7 @@
 //! Which entries the text of a run of a site may have.
 
 ghost use Rattle.std.specs.Prelude.{◌↔◌, IsTrue};
+ghost use Rattle.site_types.specs.Valid.{IsValid};
 ghost use Rattle.face_text.specs.Entries.{IsChange, IsEntry};
 ghost use Rattle.face_text.specs.Slots.{HasPlace};
 ghost use Rattle.face_text.specs.Spelled.{IsOf64Bits};
@@ -8,20 +9,23 @@ ghost use Rattle.face_text.specs.Timelines.{IsReply};
 
 use crate::group::Group;
 use crate::masks::last_number;
-use crate::naming::{is_panel, name_of};
+use crate::naming::is_panel;
 use crate::reading::change::Change;
 use crate::reading::entry::Entry;
+use crate::reading::guesses::Guesses;
+use crate::reading::known_names::known_name;
 use crate::reply::Reply;
 use site_types::{GREATEST_COUNT, Site};
 
 /// Whether the text of some run of a site may have an entry.
-pub fn is_entry(site: &Site, entry: &Entry) -> bool
-    requires { IsOf64Bits entry.now }
+pub fn is_entry(site: &Site, guesses: &Guesses, entry: &Entry) -> bool
+    requires valid { IsValid site.now }
+    requires numbers { IsOf64Bits entry.now }
     ensures { IsTrue result ↔ IsEntry site.now entry.now }
 {
     match *entry {
         Entry::Change { panel, change } => {
-            is_panel(site, panel) && is_change(site, panel, change)
+            is_panel(site, panel) && is_change(site, guesses, panel, change)
         }
         Entry::Answer(answer) => is_reply(answer.reply),
         Entry::Busy { panel, count } => is_panel(site, panel) && count != 0,
@@ -29,7 +33,8 @@ pub fn is_entry(site: &Site, entry: &Entry) -> bool
     }
 }
 
-fn is_change(site: &Site, panel: u8, change: Change) -> bool
+fn is_change(site: &Site, guesses: &Guesses, panel: u8, change: Change) -> bool
+    requires { IsValid site.now }
     ensures { IsTrue result ↔ IsChange site.now panel change }
 {
     match change {
@@ -37,7 +42,7 @@ fn is_change(site: &Site, panel: u8, change: Change) -> bool
             has_place(group)
                 && number >= 1
                 && number <= last_number(group)
-                && name_of(site, panel, group, number).is_some()
+                && known_name(site, guesses, panel, group, number).is_some()
         }
         Change::Delays(_) | Change::Buzzer(_) => true,
         Change::Counter(count) => count <= GREATEST_COUNT,

@@ -1,25 +1,29 @@
 //! The lines of a text behind the first, each by what it tells, and the first.
 
 ghost use Rattle.std.specs.Prelude.{◌≡◌, ◌≤◌, ◌++◌, codes, decimal, length};
+ghost use Rattle.site_types.specs.Valid.{IsValid};
 ghost use Rattle.face_text.specs.Entries.{entry_line as line_of_entry, slot_of, value_of};
 ghost use Rattle.face_text.specs.Slots.{line_of};
 ghost use Rattle.face_text.specs.Timelines.{opening_line as line_of_opening};
 
 use crate::answer_lines::{answer_line, counted_line};
-use crate::change_lines::{buzzer_line, counter_line, delays_line, thing_line};
+use crate::change_lines::{buzzer_line, counter_line, delays_line, named_line};
 use crate::reading::change::Change;
 use crate::reading::entry::Entry;
+use crate::reading::guesses::Guesses;
+use crate::reading::known_names::known_name;
 use arrayvec::ArrayString;
 use itoa::Buffer;
 use site_types::Site;
 
 /// The line of an entry, with its end. It is no line where the site hasn't the thing that it tells of.
-pub fn entry_line(site: &Site, entry: &Entry) -> ArrayString<64>
+pub fn entry_line(site: &Site, guesses: &Guesses, entry: &Entry) -> ArrayString<64>
+    requires { IsValid site.now }
     ensures text { result.bytes ≡ line_of_entry site.now entry.now }
     ensures short { length result.bytes ≤ 64 }
 {
     match *entry {
-        Entry::Change { panel, change } => change_line(site, panel, change),
+        Entry::Change { panel, change } => change_line(site, guesses, panel, change),
         Entry::Answer(answer) => answer_line(&answer),
         Entry::Busy { panel, count } => counted_line(panel, count),
         Entry::StoreFailed => failed_line(),
@@ -43,12 +47,16 @@ pub fn opening_line(site: &Site) -> ArrayString<64>
     line
 }
 
-fn change_line(site: &Site, panel: u8, change: Change) -> ArrayString<64>
+fn change_line(site: &Site, guesses: &Guesses, panel: u8, change: Change) -> ArrayString<64>
+    requires { IsValid site.now }
     ensures text { result.bytes ≡ line_of site.now panel (slot_of change) (value_of change) }
     ensures short { length result.bytes ≤ 64 }
 {
     match change {
-        Change::Thing { group, number, on } => thing_line(site, panel, group, number, on),
+        Change::Thing { group, number, on } => {
+            let name = known_name(site, guesses, panel, group, number);
+            named_line(panel, group, &name, on)
+        }
         Change::Delays(on) => delays_line(panel, on),
         Change::Buzzer(buzzer) => buzzer_line(panel, buzzer),
         Change::Counter(counter) => counter_line(panel, counter),

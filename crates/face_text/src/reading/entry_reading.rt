@@ -9,16 +9,19 @@ use crate::reading::candidates::candidate;
 use crate::reading::entry::Entry;
 use crate::reading::entry_forms::is_entry;
 use crate::reading::entry_lines::{entry_line, opening_line};
+use crate::reading::guesses::Guesses;
 use line_fields::is_word;
 use site_types::Site;
 
 /// The entry whose line this is, without its end. A line may have any bytes and any length.
-pub fn read_entry(site: &Site, line: &[u8]) -> Option<Entry>
+pub fn read_entry(site: &Site, guesses: &Guesses, line: &[u8]) -> Option<Entry>
     requires { IsValid site.now }
     ensures { ReadsEntry site.now line.now result }
 {
-    let entry = candidate(site, line)?;
-    if is_entry(site, &entry) && is_ended(entry_line(site, &entry).as_str().as_bytes(), line) {
+    let entry = candidate(site, guesses, line)?;
+    if is_entry(site, guesses, &entry)
+        && is_ended(entry_line(site, guesses, &entry).as_str().as_bytes(), line)
+    {
         Some(entry)
     } else {
         None

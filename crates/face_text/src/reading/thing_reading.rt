@@ -7,34 +7,42 @@ ghost use Rattle.face_text.specs.Spelled.{output_named as output_of_name, point_
 ghost use Rattle.face_text.specs.Spelled.{thing_spelled, truth_place as place_of_truth, zone_named as zone_of_name};
 
 use crate::group::Group;
+use crate::reading::guesses::Guesses;
+use crate::reading::known_names::known_thing;
 use crate::reading::numbered::Numbered;
 use crate::words::kind_word;
 use line_fields::{is_word, read_octet};
 use site_types::{Output, Point, Site, Thing, Zone};
 
 /// The thing that the words behind a panel's number spell.
-pub fn read_thing(site: &Site, word: &[u8], first: &[u8], second: &[u8]) -> Option<Numbered>
+pub fn read_thing(
+    site: &Site,
+    guesses: &Guesses,
+    word: &[u8],
+    first: &[u8],
+    second: &[u8],
+) -> Option<Numbered>
     requires { IsValid site.now }
     ensures { result ≡ thing_spelled site.now word.now first.now second.now }
 {
     if is_word(word, b"zone") {
-        let zone = zone_named(site, first)?;
+        let zone = zone_named(site, guesses, first)?;
         Some(numbered(Group::Zones(zone.panel), zone.number))
     } else if is_word(word, b"first") {
-        let zone = zone_named(site, first)?;
+        let zone = zone_named(site, guesses, first)?;
         Some(numbered(Group::Firsts(zone.panel), zone.number))
     } else if is_word(word, b"fault") {
-        read_fault(site, first, second)
+        read_fault(site, guesses, first, second)
     } else if is_word(word, b"output") {
-        let output = output_named(site, first)?;
+        let output = output_named(site, guesses, first)?;
         Some(numbered(Group::Outputs, output.number))
     } else if is_word(word, b"confirmed") {
-        let output = output_named(site, first)?;
+        let output = output_named(site, guesses, first)?;
         Some(numbered(Group::Confirmed, output.number))
     } else if is_word(word, b"disabled") {
-        read_disabled(site, first, second)
+        read_disabled(site, guesses, first, second)
     } else if is_word(word, b"test") {
-        let zone = zone_named(site, first)?;
+        let zone = zone_named(site, guesses, first)?;
         Some(numbered(Group::Tests, zone.number))
     } else {
         None
@@ -49,12 +57,12 @@ pub fn truth_place(group: Group) -> usize
 }
 
 // The thing of a fault. A supply stands in the kind's place.
-fn read_fault(site: &Site, kind: &[u8], name: &[u8]) -> Option<Numbered>
+fn read_fault(site: &Site, guesses: &Guesses, kind: &[u8], name: &[u8]) -> Option<Numbered>
     requires { IsValid site.now }
     ensures { result ≡ fault_spelled site.now kind.now name.now }
 {
     if is_word(kind, b"missing") {
-        let point = point_named(site, name)?;
+        let point = point_named(site, guesses, name)?;
         Some(numbered(Group::Missing(point.line), point.address))
     } else if is_word(kind, b"broken") {
         read_numbered(Group::Broken, name)
@@ -65,7 +73,7 @@ fn read_fault(site: &Site, kind: &[u8], name: &[u8]) -> Option<Numbered>
     } else if is_word(kind, b"link") {
         read_numbered(Group::Links, name)
     } else if is_word(kind, b"unconfirmed") {
-        let output = output_named(site, name)?;
+        let output = output_named(site, guesses, name)?;
         Some(numbered(Group::Unconfirmed, output.number))
     } else {
         let supply = supply_number(kind)?;
@@ -73,18 +81,18 @@ fn read_fault(site: &Site, kind: &[u8], name: &[u8]) -> Option<Numbered>
     }
 }
 
-fn read_disabled(site: &Site, kind: &[u8], name: &[u8]) -> Option<Numbered>
+fn read_disabled(site: &Site, guesses: &Guesses, kind: &[u8], name: &[u8]) -> Option<Numbered>
     requires { IsValid site.now }
     ensures { result ≡ disabled_spelled site.now kind.now name.now }
 {
     if is_word(kind, b"point") {
-        let point = point_named(site, name)?;
+        let point = point_named(site, guesses, name)?;
         Some(numbered(Group::PointsOff(point.line), point.address))
     } else if is_word(kind, b"zone") {
-        let zone = zone_named(site, name)?;
+        let zone = zone_named(site, guesses, name)?;
         Some(numbered(Group::ZonesOff, zone.number))
     } else if is_word(kind, b"output") {
-        let output = output_named(site, name)?;
+        let output = output_named(site, guesses, name)?;
         Some(numbered(Group::OutputsOff, output.number))
     } else {
         None
@@ -121,31 +129,31 @@ fn supply_number(word: &[u8]) -> Option<u8>
     }
 }
 
-fn zone_named(site: &Site, name: &[u8]) -> Option<Zone>
+fn zone_named(site: &Site, guesses: &Guesses, name: &[u8]) -> Option<Zone>
     requires { IsValid site.now }
     ensures { result ≡ zone_of_name site.now name.now }
 {
-    match site.find(name) {
+    match known_thing(site, guesses, name) {
         Some(Thing::Zone(place)) => site.zones.as_slice().get(place as usize).copied(),
         _ => None,
     }
 }
 
-fn point_named(site: &Site, name: &[u8]) -> Option<Point>
+fn point_named(site: &Site, guesses: &Guesses, name: &[u8]) -> Option<Point>
     requires { IsValid site.now }
     ensures { result ≡ point_of_name site.now name.now }
 {
-    match site.find(name) {
+    match known_thing(site, guesses, name) {
         Some(Thing::Point(place)) => site.points.as_slice().get(place as usize).copied(),
         _ => None,
     }
 }
 
-fn output_named(site: &Site, name: &[u8]) -> Option<Output>
+fn output_named(site: &Site, guesses: &Guesses, name: &[u8]) -> Option<Output>
     requires { IsValid site.now }
     ensures { result ≡ output_of_name site.now name.now }
 {
-    match site.find(name) {
+    match known_thing(site, guesses, name) {
         Some(Thing::Output(place)) => site.outputs.as_slice().get(place as usize).copied(),
         _ => None,
     }

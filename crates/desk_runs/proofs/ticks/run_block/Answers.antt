@@ -1,5 +1,5 @@
 use Rattle.std.proofs.Common.{◌∙◌}
-use Rattle.desk_runs.proofs.Running.{begun_with, ran_block}
+use Rattle.desk_runs.proofs.Running.{begun_with, may_tell_begun, ran_block}
 use Rattle.site_run.specs.Outside.{disks_of}
 use Rattle.desk_runs.proofs.ticks.run_block.Goals as goal
 
@@ -10,13 +10,9 @@ pub tell_lines-requires : goal.tell_lines-requires
 tell_lines-requires g c =
     let r = c.requires.may in
     record {
-      may = record {
-        site = r.site;
-        kept = r.kept;
-        ticks = r.ticks;
-        with = begun_with r.site r.kept r.ticks c.args.tick c.args.block.now c.args.run.now c.begin.new.self r.with c.begin.ensures.opens
-            c.behind_first_line.result.now c.behind_first_line.ensures;
-      };
+      may =
+          may_tell_begun r.site r.kept r.ticks c.args.tick c.args.block.now c.args.run.now c.begin.new.self r.with c.begin.ensures.opens
+          c.behind_first_line.result.now c.behind_first_line.ensures;
     }
 
 pub make_turns-requires-clause-may : goal.make_turns-requires-clause-may

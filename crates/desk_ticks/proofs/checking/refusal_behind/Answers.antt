@@ -1,5 +1,4 @@
-use Rattle.std.proofs.Common.{◌∙◌, ◌+◌, ◌++◌, sym, subst, arith}
-use Rattle.desk_ticks.specs.Blocks.{first_line}
+use Rattle.std.proofs.Common.{◌∙◌, ◌+◌, sym, subst, arith}
 use Rattle.desk_ticks.proofs.Behind.{IsRead, goes_here, none_read, some_left, stops_here, used_fits, used_some}
 use Rattle.desk_ticks.proofs.checking.refusal_behind.Goals as goal
 
@@ -10,43 +9,29 @@ loop-left-init c =
 
 pub returns-in-Some : goal.returns-in-Some
 returns-in-Some c =
-    let site = c.args.site.now in
-    let left = c.loop-left.left.now in
     let h = c.loop-left.invariant in
-    let some = some_left left (sym c.is_empty.ensures ∙ c.loop-left-test.true) in
-    let feeds = c.feed-fed.ensures.feeds (first_line site ++ h.front) h.reads in
-    sym
-    (stops_here site c.args.rest.now left c.loop-left.reader c.feed-fed.new.self c.loop-left.number c.feed-fed.result h some feeds c.in-Some.refusal
-    (sym c.stop_at.ensures ∙ c.in-Some.is))
+    let some = some_left _ (sym c.is_empty.ensures ∙ c.loop-left-test.true) in
+    sym (stops_here _ _ _ _ _ _ _ h some (c.feed-fed.ensures.feeds _ h.reads) c.in-Some.refusal (sym c.stop_at.ensures ∙ c.in-Some.is))
 
 pub split_at-requires : goal.split_at-requires
 split_at-requires c =
-    let site = c.args.site.now in
-    let left = c.loop-left.left.now in
     let h = c.loop-left.invariant in
-    let some = some_left left (sym c.is_empty.ensures ∙ c.loop-left-test.true) in
-    let feeds = c.feed-fed.ensures.feeds (first_line site ++ h.front) h.reads in
-    used_fits site c.args.rest.now left c.loop-left.reader c.feed-fed.new.self c.loop-left.number c.feed-fed.result h some feeds
+    let some = some_left _ (sym c.is_empty.ensures ∙ c.loop-left-test.true) in
+    used_fits _ _ _ _ _ _ _ h some (c.feed-fed.ensures.feeds _ h.reads)
 
 pub loop-left-smaller : goal.loop-left-smaller
 loop-left-smaller c =
-    let site = c.args.site.now in
-    let left = c.loop-left.left.now in
     let h = c.loop-left.invariant in
-    let some = some_left left (sym c.is_empty.ensures ∙ c.loop-left-test.true) in
-    let feeds = c.feed-fed.ensures.feeds (first_line site ++ h.front) h.reads in
-    let fits = used_fits site c.args.rest.now left c.loop-left.reader c.feed-fed.new.self c.loop-left.number c.feed-fed.result h some feeds in
-    let more = used_some site c.args.rest.now left c.loop-left.reader c.feed-fed.new.self c.loop-left.number c.feed-fed.result h some feeds in
+    let some = some_left _ (sym c.is_empty.ensures ∙ c.loop-left-test.true) in
+    let feeds = c.feed-fed.ensures.feeds _ h.reads in
+    let fits = used_fits _ _ _ _ _ _ _ h some feeds in
+    let more = used_some _ _ _ _ _ _ _ h some feeds in
     let back = c.split_at.ensures.back_len in
     omega (arith, more, fits, back)
 
 pub loop-left-preserved : goal.loop-left-preserved
 loop-left-preserved c =
-    let site = c.args.site.now in
-    let left = c.loop-left.left.now in
     let h = c.loop-left.invariant in
-    let some = some_left left (sym c.is_empty.ensures ∙ c.loop-left-test.true) in
-    let feeds = c.feed-fed.ensures.feeds (first_line site ++ h.front) h.reads in
-    subst (λ xs. IsRead site c.args.rest.now xs c.feed-fed.new.self (c.loop-left.number + 1)) (sym c.split_at.ensures.back)
-    (goes_here site c.args.rest.now left c.loop-left.reader c.feed-fed.new.self c.loop-left.number c.feed-fed.result h some feeds
-    (sym c.stop_at.ensures ∙ c.in-None.is))
+    let some = some_left _ (sym c.is_empty.ensures ∙ c.loop-left-test.true) in
+    subst (λ xs. IsRead c.args.site.now c.args.rest.now xs c.feed-fed.new.self (c.loop-left.number + 1)) (sym c.split_at.ensures.back)
+    (goes_here _ _ _ _ _ _ _ h some (c.feed-fed.ensures.feeds _ h.reads) (sym c.stop_at.ensures ∙ c.in-None.is))

@@ -1,12 +1,11 @@
 use Rattle.std.proofs.Common.{◌∙◌, add-one}
 use Rattle.marker_table.specs.Equations.{values_of}
 use Rattle.panel_rules.specs.Markers.{solved as solved_to}
-use Rattle.plain_outputs.proofs.Solving.{none_true}
 use Rattle.panel_bridges.proofs.MaskEquations.{equation_same}
 use Rattle.plain_outputs.proofs.solved.solved.Goals as goal
 
 pub loop-round-init : goal.loop-round-init
-loop-round-init c rules are m = none_true c.none-values.result.marker c.none-values.ensures m
+loop-round-init c rules are m = c.none-values.ensures m
 
 pub loop-round-preserved : goal.loop-round-preserved
 loop-round-preserved c rules are m =

@@ -1,11 +1,11 @@
-use Rattle.std.proofs.Common.{◌≡◌, ◌≤◌, List, false, length, map, take}
-use Rattle.std.specs.List.{range_with_len}
+use Rattle.std.proofs.Common.{◌≡◌, ◌≤◌, List, false, length, take}
 use Rattle.site_types.specs.declared.retained.Retained.{Retained}
 use Rattle.site_types.specs.declared.site.Site.{Site}
 use Rattle.panel_rules.specs.Moments.{Moment, IsRun}
-use Rattle.panel_rules.specs.Timeline.{face_of, faces_of}
+use Rattle.panel_rules.specs.Timeline.{faces_of}
 use Rattle.panel_core.specs.Marks.{AreMarked, before_tick}
 use Rattle.panel_core.specs.Stands.{StandsFor}
+use Rattle.site_run.proofs.Faces.{ShowsFirst}
 use Rattle.site_run.proofs.run.show_now.Given as goal
 
 -- the first panels show what the rules say, and what they showed where none of them is marked
@@ -16,6 +16,6 @@ invariant-loop-place l =
       within : l.place ≤ length l.initial.faces.items;
       shown : (site : Site) (kept : Retained) (before : List Moment) → StandsFor site kept before l.system → IsRun site.panels before
           → AreMarked site kept before l.system.changed → length l.initial.faces.items ≡ site.panels → l.shown ≡ faces_of site kept (before_tick before)
-          → take l.place l.faces.items ≡ map (λ panel. face_of site kept panel before) (range_with_len 1 l.place);
+          → ShowsFirst site kept before l.place l.faces.items;
       same : l.changed ≡ false → take l.place l.faces.items ≡ take l.place l.shown;
     }

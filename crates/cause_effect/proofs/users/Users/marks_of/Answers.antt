@@ -2,26 +2,25 @@ use Rattle.std.proofs.Common.{◌≡◌, ◌||◌, sym, ap, ◌∙◌, arith}
 use Rattle.cause_effect.specs.Users.{uses_word}
 use Rattle.site_types.specs.Bits.{any_below}
 use Rattle.cause_effect.proofs.Marking.{below_none, facts_mark, panel_more, uses_panel}
-use Rattle.cause_effect.proofs.Solving.{none_true}
 use Rattle.cause_effect.proofs.users.Users.marks_of.Goals as goal
 
 pub loop-panel-init : goal.loop-panel-init
-loop-panel-init c m small = none_true 256 m ∙ sym (below_none (uses_panel c.args.self.now.lists c.args.before.now c.args.after.now m))
+loop-panel-init c m small = c.none-marks.ensures m ∙ sym (below_none (uses_panel c.args.self.now.sets c.args.before.now c.args.after.now m))
 
 pub loop-panel-preserved : goal.loop-panel-preserved
 loop-panel-preserved c m small =
-    panel_more c.args.self.now.lists c.args.before.now c.args.after.now m c.loop-panel.panel _ _ _
+    panel_more c.args.self.now.sets c.args.before.now c.args.after.now m c.loop-panel.panel _ _ _
     (c.loop-panel.invariant m small) (c.mark_word.ensures m small) (c.mark_word-in-loop-panel.ensures m small)
 
-pub returns-clause-marks : goal.returns-clause-marks
-returns-clause-marks c site valid users m small =
+pub returns : goal.returns
+returns c site valid users m small =
     let last = c.loop-panel-test.false in
     let most = c.loop-panel.auto.panel-end in
     let whole : c.loop-panel.panel ≡ 8 = omega (arith, last, most) in
-    let lists = c.args.self.now.lists in
+    let sets = c.args.self.now.sets in
     let before = c.args.before.now in
     let after = c.args.after.now in
     c.mark_word-2.ensures m small ∙
-    (ap (λ b. b || uses_word lists 768 before.faults after.faults m)
-    (c.loop-panel.invariant m small ∙ ap (λ n. any_below n (uses_panel lists before after m)) whole) ∙
-    facts_mark site valid lists before after m users)
+    (ap (λ b. b || uses_word sets 768 before.faults after.faults m)
+    (c.loop-panel.invariant m small ∙ ap (λ n. any_below n (uses_panel sets before after m)) whole) ∙
+    facts_mark site valid sets before after m users)

@@ -4,6 +4,6 @@ use Rattle.cause_effect.proofs.users.Users.of.Given as goal
 
 abbrev pub invariant-loop-place : goal.invariant-loop-place
 invariant-loop-place l = record {
-  size : length l.lists.items ≡ 776;
-  users : AreUsersUpTo l.site l.place l.lists.items;
+  size : length l.sets.items ≡ 776;
+  users : AreUsersUpTo l.site l.place l.sets.items;
 }

@@ -2,25 +2,45 @@ use Rattle.std.proofs.Common.{◌≡◌, ◌∙◌, ap, sym, ◌+◌, ◌-◌, �
 use Rattle.std.specs.List.{filter_map, range_with_len}
 use Rattle.tick_units.specs.Lane.{with_put}
 use Rattle.site_types.specs.Profile.{round_of}
+use Rattle.answer_lanes.specs.Points.{answer_behind}
+use Rattle.answer_lanes.specs.Runs.{items_of}
+use Rattle.answer_lanes.proofs.Moving.{length_run}
 use Rattle.loop_poller.specs.Asked.{answer_from, answer_of, heard_of, is_reached_on, point_at}
+use Rattle.loop_poller.specs.Stands.{IsQuietGroup}
 use Rattle.site_types.specs.Things.{loop_of}
 use Rattle.loop_poller.proofs.Filling.{read_at}
 use Rattle.loop_poller.proofs.Lanes.{got_more, got_same, put-nil, put_some, put_none}
 use Rattle.loop_poller.proofs.Lines.{nothing_asked, on_loop, point_there}
+use Rattle.loop_poller.proofs.Quiet.{if_some}
+use Rattle.loop_poller.proofs.QuietAnswers.{quiet_asked, room_behind}
 use Rattle.loop_poller.proofs.Windows.{asked_window, group_of, is_asked_here, range-more}
 use Rattle.loop_poller.proofs.polled_line.PolledLine.ask.Goals as goal
-use Rattle.loop_poller.proofs.polled_line.PolledLine.ask.Goals.{in-Some, in_default}
+use Rattle.loop_poller.proofs.polled_line.PolledLine.ask.Goals.{in-Some-index, in_default-index}
 
 pub bounds-states-point : goal.bounds-states-point
 bounds-states-point c =
     let within : c.loop-address.address - 1 < length c.args.self.now.points.items = omega arith in
-    c.requires.known (c.loop-address.address - 1) c.in-Some.point
-    (read_at c.args.self.now.points.items (c.loop-address.address - 1) c.index.result.now None within c.index.ensures ∙ c.in-Some.is)
+    c.requires.known (c.loop-address.address - 1) c.in-Some-index.point
+    (read_at c.args.self.now.points.items (c.loop-address.address - 1) c.index.result.now None within c.index.ensures ∙ c.in-Some-index.is)
 
 pub returns-then-is_none-clause-put : goal.returns-then-is_none-clause-put
 returns-then-is_none-clause-put c site panel line points cables valid stands states from =
     sym (ap (with_put c.args.answers.now) (nothing_asked site panel line points cables c.args.now.0 c.args.self.now valid stands c.if-is_none.ensures)
     ∙ put-nil c.args.answers.now)
+
+pub returns-in-Some-clause-room : goal.returns-in-Some-clause-room
+returns-in-Some-clause-room c n room =
+    let run = c.quiet_answers.result in
+    room_behind c.args.answers.now c.put_run.new.self (items_of answer_behind run) 8 c.put_run.ensures
+    (let size = length_run answer_behind run in let few = c.quiet_answers.ensures.few in omega (arith, size, few)) n room
+
+pub returns-in-Some-clause-put : goal.returns-in-Some-clause-put
+returns-in-Some-clause-put c site panel line points cables valid stands states from =
+    let group = c.in-Some.group in
+    let quiet = if_some (IsQuietGroup c.args.self.now c.args.states.now c.args.first) c.quiet_group.result group c.quiet_group.ensures c.in-Some.is in
+    c.put_run.ensures ∙ ap (λ run. with_put c.args.answers.now (items_of answer_behind run)) c.quiet_answers.ensures.run
+    ∙ ap (with_put c.args.answers.now) (sym (quiet_asked site panel line points cables c.args.now.0 c.args.self.now c.args.states.now c.args.first group
+    valid stands states from quiet))
 
 pub loop-address-preserved : goal.loop-address-preserved
 loop-address-preserved c =
@@ -29,8 +49,8 @@ loop-address-preserved c =
     let count : address + 1 - first ≡ (address - first) + 1 = omega arith in
     record {
       few = rw count (elim c.match-index.branch [
-        | in-Some w ↦ got_more _ _ _ _ _ c.loop-address.invariant.few (w.answers-is ∙ w.put.ensures)
-        | in_default w ↦ got_same _ _ _ _ c.loop-address.invariant.few w.answers-is
+        | in-Some-index w ↦ got_more _ _ _ _ _ c.loop-address.invariant.few (w.answers-is ∙ w.put.ensures)
+        | in_default-index w ↦ got_same _ _ _ _ c.loop-address.invariant.few w.answers-is
       ]);
       put = λ site panel line points cables valid stands states from.
           let f = answer_from site panel points cables c.args.now.0 line in
@@ -48,20 +68,20 @@ loop-address-preserved c =
           (group_of (c.args.now.0 % round_of site.format) first address from (omega arith) (omega arith))
           ∙ ap (option_map (answer_of site panel points cables c.args.now.0 line address)) there in
           elim c.match-index.branch [
-            | in-Some w ↦ (let point = w.in-Some.point in
-                let at : point_at site panel line address ≡ Some point = there ∙ w.in-Some.is in
+            | in-Some-index w ↦ (let point = w.in-Some-index.point in
+                let at : point_at site panel line address ≡ Some point = there ∙ w.in-Some-index.is in
                 let known = (point_there site panel line address point at).within in
                 let state = states.each point known in
                 let heard = w.heard-heard.ensures site panel line (cables line) stands (on_loop site panel line address point valid at)
                 ∙ ap (λ s. heard_of s (is_reached_on (loop_of site panel line) (cables line) address)) state in
                 let answer : f address ≡ Some (record { stamp = c.args.now; point = point; heard = w.heard-heard.result }) =
-                asked ∙ ap (option_map (answer_of site panel points cables c.args.now.0 line address)) w.in-Some.is ∙ ap
+                asked ∙ ap (option_map (answer_of site panel points cables c.args.now.0 line address)) w.in-Some-index.is ∙ ap
                 (λ h. Some (record { stamp = c.args.now; point = point; heard = h })) (sym heard) in
                 put_some f address (range_with_len first (address - first)) _ _ _ so_far _ answer (w.answers-is ∙ w.put.ensures)
                 ∙ ap (λ places. with_put c.args.answers.now (filter_map f places)) span)
-            | in_default w ↦
+            | in_default-index w ↦
                 put_none f address (range_with_len first (address - first)) _ _ _ so_far
-                (asked ∙ ap (option_map (answer_of site panel points cables c.args.now.0 line address)) w.in_default.is) w.answers-is
+                (asked ∙ ap (option_map (answer_of site panel points cables c.args.now.0 line address)) w.in_default-index.is) w.answers-is
                 ∙ ap (λ places. with_put c.args.answers.now (filter_map f places)) span
           ];
     }

@@ -21,7 +21,7 @@ face-self-requires g c =
     let turns = c.turns-store in
     let disks = disks_of g.D.Disk.honest g.D.Disk.images g.D.Disk.moment g.D.Disk.left_since c.args.disk.now turns.new.disk in
     some_turned r.site r.panel r.kept r.history r.ticks r.events c.args.self.now r.begun disks turns.result turns.new.journal turns.new.self
-    turns.ensures.turns turns.ensures.same
+    turns.ensures.turns turns.ensures.leaves.same
 
 pub returns-clause-makes : goal.returns-clause-makes
 returns-clause-makes g c site panel kept history ticks events h =
@@ -29,13 +29,13 @@ returns-clause-makes g c site panel kept history ticks events h =
     let turns = c.turns-store in
     let disks = disks_of g.D.Disk.honest g.D.Disk.images g.D.Disk.moment g.D.Disk.left_since c.args.disk.now turns.new.disk in
     let stores =
-    stores_turns site panel kept history ticks events old h disks turns.result turns.new.journal turns.new.self turns.ensures.turns turns.ensures.same
-    turns.ensures.honest turns.ensures.early turns.ensures.moments turns.ensures.cut in
-    made_tick site panel kept history ticks events old h disks turns.result turns.new.journal turns.new.self turns.ensures.turns turns.ensures.same
+    stores_turns site panel kept history ticks events old h disks turns.result turns.new.journal turns.new.self turns.ensures.turns turns.ensures.leaves.same
+    turns.ensures.leaves.keeps_honest turns.ensures.leaves.early turns.ensures.moments turns.ensures.cut in
+    made_tick site panel kept history ticks events old h disks turns.result turns.new.journal turns.new.self turns.ensures.turns turns.ensures.leaves.same
     c.face-self.result c.face-self.ensures.shown _ refl refl refl refl refl c.with_failure-self.ensures stores
 
 pub returns-clause-disk : goal.returns-clause-disk
 returns-clause-disk g c =
-    let turns = c.turns-store.ensures in
+    let leaves = c.turns-store.ensures.leaves in
     keeps_turns g.D.Disk.honest g.D.Disk.images g.D.Disk.faults c.args.disk.now c.turns-store.new.disk c.args.self.now _ c.turns-store.result
-    turns.stands turns.same turns.early turns.cause c.with_failure-self.ensures
+    leaves.stands leaves.same leaves.early leaves.cause c.with_failure-self.ensures

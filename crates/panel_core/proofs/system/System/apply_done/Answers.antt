@@ -1,7 +1,7 @@
 use Rattle.std.proofs.Common.{◌∙◌, length, refl, ap, arith}
 use Rattle.tick_units.specs.declared.tick.Tick.{Tick}
-use Rattle.panel_core.proofs.Begun.{all_applied, more_applied, next_applied, none_applied, so_many}
-use Rattle.panel_parts.proofs.Applied.{read_done}
+use Rattle.panel_parts.proofs.TickDone.{read_next}
+use Rattle.panel_core.proofs.Begun.{all_applied, may_apply_next, more_applied, none_applied}
 use Rattle.panel_core.proofs.system.System.apply_done.Goals as goal
 
 pub loop-place-init : goal.loop-place-init
@@ -13,40 +13,29 @@ loop-place-init c = record {
 pub apply-requires : goal.apply-requires
 apply-requires c =
     let r = c.requires in
-    let inv = c.loop-place.invariant in
-    let place = c.loop-place.place in
-    let test = c.loop-place-test.true in
-    let count = ap length c.done-place-end.ensures in
-    let is = read_done c.args.self.now.desk.done.items c.done.result.now place _ (c.done.ensures ∙ ap (λ desk. desk.done.items) inv.same.desk) (omega (arith, test, count)) in
-    record {
-      site = r.site;
-      kept = r.kept;
-      before = r.before;
-      done = so_many r.site r.kept r.before c.args.self.now r.stands r.run place;
-      has = inv.applied r.site r.kept r.before r.stands r.run;
-      may = next_applied r.site r.kept r.before c.args.self.now r.stands r.run place c.loop-place.self.tick.0 _ (ap (λ (t : Tick). t.0) inv.same.tick ∙ r.stands.tick) is;
-    }
+    let l = c.loop-place in
+    let same = l.invariant.same in
+    may_apply_next r.site r.kept r.before c.args.self.now r.stands r.run l.place l.self.tick.0 _ l.self (ap (λ (t : Tick). t.0) same.tick ∙ r.stands.tick)
+    (read_next c.args.self.now.desk l.self.desk c.done.result.now _ l.place _ same.desk c.done.ensures c.done-place-end.ensures c.loop-place-test.true)
+    (l.invariant.applied r.site r.kept r.before r.stands r.run)
 
 pub loop-place-preserved : goal.loop-place-preserved
 loop-place-preserved c =
-    let inv = c.loop-place.invariant in
-    let place = c.loop-place.place in
-    let test = c.loop-place-test.true in
-    let count = ap length c.done-place-end.ensures in
-    let is = read_done c.args.self.now.desk.done.items c.done.result.now place _ (c.done.ensures ∙ ap (λ desk. desk.done.items) inv.same.desk) (omega (arith, test, count)) in
+    let l = c.loop-place in
+    let same = l.invariant.same in
+    let is =
+    read_next c.args.self.now.desk l.self.desk c.done.result.now _ l.place _ same.desk c.done.ensures c.done-place-end.ensures c.loop-place-test.true in
     record {
       same = record {
-        desk = c.apply.ensures.same.desk ∙ inv.same.desk;
-        tick = c.apply.ensures.same.tick ∙ inv.same.tick;
-        counts = c.apply.ensures.same.counts ∙ inv.same.counts;
-        plan = c.apply.ensures.same.plan ∙ inv.same.plan;
-        ring = c.apply.ensures.same.ring ∙ inv.same.ring;
+        desk = c.apply.ensures.same.desk ∙ same.desk;
+        tick = c.apply.ensures.same.tick ∙ same.tick;
+        counts = c.apply.ensures.same.counts ∙ same.counts;
+        plan = c.apply.ensures.same.plan ∙ same.plan;
+        ring = c.apply.ensures.same.ring ∙ same.ring;
       };
-      applied = λ site kept before h run. (
-          let now = ap (λ (t : Tick). t.0) inv.same.tick ∙ h.tick in
-          more_applied site kept before c.args.self.now h run place c.loop-place.self.tick.0 _ c.apply.new.self now is
-          (c.apply.ensures.applied site kept before (so_many site kept before c.args.self.now h run place) (inv.applied site kept before h run)
-          (next_applied site kept before c.args.self.now h run place c.loop-place.self.tick.0 _ now is)));
+      applied = λ site kept before h run.
+          more_applied site kept before c.args.self.now h run l.place l.self.tick.0 _ l.self (ap (λ (t : Tick). t.0) same.tick ∙ h.tick) is
+          (l.invariant.applied site kept before h run) c.apply.new.self c.apply.ensures.applied;
     }
 
 pub returns-clause-applied : goal.returns-clause-applied

@@ -1,7 +1,7 @@
 use Rattle.std.proofs.Common.{◌∙◌, refl, sym, ap, arith}
 use Rattle.site_types.specs.Events.{has_event}
 use Rattle.panel_core.proofs.Events.{can_hear, confirmation_done, desk_after, link_within, other_done, output_panel}
-use Rattle.panel_core.proofs.Events.{panel_read, piece_done, piece_read, point_done, point_panel, report_done, supply_panel}
+use Rattle.panel_core.proofs.Events.{panel_read, piece_done, piece_read, piece_within, point_done, point_panel, report_done, supply_panel}
 use Rattle.panel_core.proofs.Marked.{confirmation_marks, stands_raised, unseen_event_marks}
 use Rattle.panel_core.proofs.system.System.event.Goals as goal
 
@@ -31,10 +31,8 @@ index_mut-parts-requires-in-Cable c =
 
 pub set_piece-requires : goal.set_piece-requires
 set_piece-requires c =
-    let r = c.requires in
     let i = c.in-Cable in
-    let line = piece_read r.site c.args.event.now i.panel i.line i.piece i.state r.stands.valid r.has i.is in
-    (line.low, line.high)
+    piece_within c.requires.site c.args.event.now i.panel i.line i.piece i.state c.requires.stands.valid c.requires.has i.is
 
 pub returns-in-Point-clause-takes : goal.returns-in-Point-clause-takes
 returns-in-Point-clause-takes c site kept before h =

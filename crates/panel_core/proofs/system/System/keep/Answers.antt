@@ -24,7 +24,7 @@ returns-clause-kept g c site kept before h keeps run few =
           run now);
       keeps = record {
         keeps = now;
-        wide = made.same.wide ∙ keeps.wide;
+        wide = made.leaves.same.wide ∙ keeps.wide;
         torn = torn_by site kept before old new store keeps.torn turned;
       };
       answers = answers_by site kept before old new store turned;
@@ -45,37 +45,7 @@ pub returns-clause-moments : goal.returns-clause-moments
 returns-clause-moments g c honest site kept before h keeps run few room =
     (c.keep_left-store.ensures site kept before h run few).moments honest room
 
-pub returns-clause-stands : goal.returns-clause-stands
-returns-clause-stands g c =
+pub returns-clause-leaves : goal.returns-clause-leaves
+returns-clause-leaves g c =
     let m = c.requires.may in
-    (c.keep_left-store.ensures m.site m.kept m.before m.stands m.run.0 m.few).stands
-
-pub returns-clause-same : goal.returns-clause-same
-returns-clause-same g c =
-    let m = c.requires.may in
-    (c.keep_left-store.ensures m.site m.kept m.before m.stands m.run.0 m.few).same
-
-pub returns-clause-early : goal.returns-clause-early
-returns-clause-early g c =
-    let m = c.requires.may in
-    (c.keep_left-store.ensures m.site m.kept m.before m.stands m.run.0 m.few).early
-
-pub returns-clause-opens : goal.returns-clause-opens
-returns-clause-opens g c =
-    let m = c.requires.may in
-    (c.keep_left-store.ensures m.site m.kept m.before m.stands m.run.0 m.few).opens
-
-pub returns-clause-images : goal.returns-clause-images
-returns-clause-images g c =
-    let m = c.requires.may in
-    (c.keep_left-store.ensures m.site m.kept m.before m.stands m.run.0 m.few).left
-
-pub returns-clause-honest : goal.returns-clause-honest
-returns-clause-honest g c =
-    let m = c.requires.may in
-    (c.keep_left-store.ensures m.site m.kept m.before m.stands m.run.0 m.few).keeps_honest
-
-pub returns-clause-cause : goal.returns-clause-cause
-returns-clause-cause g c =
-    let m = c.requires.may in
-    (c.keep_left-store.ensures m.site m.kept m.before m.stands m.run.0 m.few).cause
+    (c.keep_left-store.ensures m.site m.kept m.before m.stands m.run.0 m.few).leaves

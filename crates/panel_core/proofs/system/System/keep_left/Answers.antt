@@ -33,20 +33,9 @@ returns-then-is_empty g c site kept before h run few =
 pub returns-else-are_none : goal.returns-else-are_none
 returns-else-are_none g c site kept before h run few =
     let d = g.D.Disk in
-    let t = c.keep_turn.ensures in
     subst (λ changes. MakesTurn d.honest d.images d.moment d.left_since d.faults c.args.disk.now c.keep_turn.new.disk changes c.args.journal.now
     c.keep_turn.result c.keep_turn.new.journal)
     (c.make_batch.ensures
     ∙ left_batch site kept before c.args.self.now h run few c.args.entries.now c.left_of-left.result c.requires.told c.left_of-left.ensures
     c.waiting-waiting.result.now c.waiting-waiting.ensures)
-    (record {
-      stands = t.stands;
-      answers = t.answers;
-      same = t.same;
-      early = t.early;
-      opens = t.opens;
-      left = t.images;
-      moments = t.moments;
-      keeps_honest = t.honest;
-      cause = t.cause;
-    })
+    c.keep_turn.ensures

@@ -31,7 +31,7 @@ pub returns-clause-cut : goal.returns-clause-cut
 returns-clause-cut g c honest room site kept before file h keeps run few left =
     let keep = c.keep-store in
     front_then c.requires.may c.turns_from-place.ensures.turns h keeps run few keep.result keep.new.journal keep.new.self keep.ensures.kept
-    c.turns_from.ensures.turns keep.ensures.same.digest file (keep.ensures.images honest room file left)
+    c.turns_from.ensures.turns keep.ensures.leaves.same.digest file (keep.ensures.leaves.left honest room file left)
 
 pub returns-clause-moments : goal.returns-clause-moments
 returns-clause-moments g c honest site kept before h keeps run few room =

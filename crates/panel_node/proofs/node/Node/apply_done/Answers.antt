@@ -1,7 +1,7 @@
 use Rattle.std.proofs.Common.{◌∙◌, length, refl, ap, arith}
 use Rattle.tick_units.specs.declared.tick.Tick.{Tick}
-use Rattle.panel_parts.proofs.Applied.{read_done}
-use Rattle.panel_node.proofs.Begun.{all_applied, more_applied, next_applied, none_applied, so_many}
+use Rattle.panel_parts.proofs.TickDone.{read_next}
+use Rattle.panel_node.proofs.Begun.{all_applied, may_apply_next, more_applied, none_applied}
 use Rattle.panel_node.proofs.node.Node.apply_done.Goals as goal
 
 pub loop-place-init : goal.loop-place-init
@@ -13,29 +13,19 @@ loop-place-init c = record {
 pub apply-requires : goal.apply-requires
 apply-requires c =
     let r = c.requires in
-    let inv = c.loop-place.invariant in
-    let place = c.loop-place.place in
-    let test = c.loop-place-test.true in
-    let count = ap length c.done-place-end.ensures in
-    let is = read_done c.args.self.now.desk.done.items c.done.result.now place _ (c.done.ensures ∙ ap (λ desk. desk.done.items) inv.same.desk) (omega (arith, test, count)) in
-    record {
-      site = r.site;
-      panel = r.panel;
-      kept = r.kept;
-      history = r.history;
-      done = so_many r.site r.panel r.kept r.history c.args.self.now r.stands r.run place;
-      has = inv.applied r.site r.panel r.kept r.history r.stands r.run;
-      may = next_applied r.site r.panel r.kept r.history c.args.self.now r.stands r.run place c.loop-place.self.tick.0 _
-          (ap (λ (t : Tick). t.0) inv.same.tick ∙ r.stands.tick) is;
-    }
+    let l = c.loop-place in
+    let inv = l.invariant in
+    may_apply_next r.site r.panel r.kept r.history c.args.self.now r.stands r.run l.place l.self.tick.0 _ l.self
+    (ap (λ (t : Tick). t.0) inv.same.tick ∙ r.stands.tick)
+    (read_next c.args.self.now.desk l.self.desk c.done.result.now _ l.place _ inv.same.desk c.done.ensures c.done-place-end.ensures c.loop-place-test.true)
+    (inv.applied r.site r.panel r.kept r.history r.stands r.run)
 
 pub loop-place-preserved : goal.loop-place-preserved
 loop-place-preserved c =
-    let inv = c.loop-place.invariant in
-    let place = c.loop-place.place in
-    let test = c.loop-place-test.true in
-    let count = ap length c.done-place-end.ensures in
-    let is = read_done c.args.self.now.desk.done.items c.done.result.now place _ (c.done.ensures ∙ ap (λ desk. desk.done.items) inv.same.desk) (omega (arith, test, count)) in
+    let l = c.loop-place in
+    let inv = l.invariant in
+    let is =
+    read_next c.args.self.now.desk l.self.desk c.done.result.now _ l.place _ inv.same.desk c.done.ensures c.done-place-end.ensures c.loop-place-test.true in
     let same = c.apply.ensures.same in
     record {
       same = record {
@@ -48,11 +38,9 @@ loop-place-preserved c =
         desk = same.desk ∙ inv.same.desk;
         counts = same.counts ∙ inv.same.counts;
       };
-      applied = λ site panel kept history h run. (
-          let now = ap (λ (t : Tick). t.0) inv.same.tick ∙ h.tick in
-          more_applied site panel kept history c.args.self.now h run place c.loop-place.self.tick.0 _ c.apply.new.self now is
-          (c.apply.ensures.applied site panel kept history (so_many site panel kept history c.args.self.now h run place) (inv.applied site panel kept history h run)
-          (next_applied site panel kept history c.args.self.now h run place c.loop-place.self.tick.0 _ now is)));
+      applied = λ site panel kept history h run.
+          more_applied site panel kept history c.args.self.now h run l.place l.self.tick.0 _ l.self (ap (λ (t : Tick). t.0) inv.same.tick ∙ h.tick) is
+          (inv.applied site panel kept history h run) c.apply.new.self c.apply.ensures.applied;
     }
 
 pub returns-clause-applied : goal.returns-clause-applied

@@ -1,7 +1,7 @@
 use Rattle.std.proofs.Common.{◌∙◌, length, sym, ap}
 use Rattle.site_types.specs.declared.site.Site.{Site}
 use Rattle.node_inputs.specs.OwnEvents.{is_event_of}
-use Rattle.panel_core.proofs.Events.{piece_read}
+use Rattle.panel_core.proofs.Events.{piece_within}
 use Rattle.panel_node.proofs.Events.{desk_heard, desk_may_hear, may_here, output_inside, read_output, stands_confirmed, stands_other, stands_piece, stands_point}
 use Rattle.panel_node.proofs.Events.{stands_supply}
 use Rattle.panel_node.proofs.node.Node.event.Goals as goal
@@ -11,10 +11,8 @@ event-requires c = desk_may_hear c.args.event.now c.args.self.now c.requires
 
 pub set_piece-requires : goal.set_piece-requires
 set_piece-requires c =
-    let r = c.requires in
     let i = c.in-Cable in
-    let line = piece_read r.site c.args.event.now i.panel i.line i.piece i.state r.stands.valid r.has i.is in
-    (line.low, line.high)
+    piece_within c.requires.site c.args.event.now i.panel i.line i.piece i.state c.requires.stands.valid c.requires.has i.is
 
 pub bounds-as_slice-output : goal.bounds-as_slice-output
 bounds-as_slice-output c =

@@ -26,7 +26,7 @@ returns-clause-kept g c site panel kept history h keeps run few =
       stands = c.note_kept.ensures.notes site panel kept history h c.entries-entries.ensures run now;
       keeps = record {
         keeps = now;
-        wide = c.keep_turn-store.ensures.same.wide ∙ keeps.wide;
+        wide = c.keep_turn-store.ensures.leaves.same.wide ∙ keeps.wide;
         torn = torn_by site kept before old new store keeps.torn turned;
       };
       answers = answers_by site kept before old new store turned;

@@ -1,75 +1,41 @@
+use Rattle.panel_node.proofs.OwnTurns.{first_turn, may_turn_then, then_turn}
 use Rattle.panel_node.proofs.node.Node.own_turns.Goals as goal
 
 pub decide_turn-requires : goal.decide_turn-requires
-decide_turn-requires c =
-    let r = c.requires in
-    let after_poll = c.poll_turn.ensures.turn r.site r.panel r.kept r.history r.stands r.run.0.0.0.0.0.0.0 in
-    record { site = r.site; panel = r.panel; kept = r.kept; history = _; stands = after_poll; run = r.run.0.0.0.0.0.0; few = r.few }
+decide_turn-requires c = may_turn_then c.requires (first_turn c.poll_turn.ensures.turn) c.requires.run.0.0.0.0.0.0
 
 pub supply_turn-requires : goal.supply_turn-requires
-supply_turn-requires c =
-    let r = c.requires in
-    let after_poll = c.poll_turn.ensures.turn r.site r.panel r.kept r.history r.stands r.run.0.0.0.0.0.0.0 in
-    let after_decide = c.decide_turn.ensures.turn r.site r.panel r.kept _ after_poll r.run.0.0.0.0.0.0 in
-    record { site = r.site; panel = r.panel; kept = r.kept; history = _; stands = after_decide; run = r.run.0.0.0.0.0; few = r.few }
+supply_turn-requires c = may_turn_then c.requires (then_turn (first_turn c.poll_turn.ensures.turn) c.decide_turn.ensures.turn) c.requires.run.0.0.0.0.0
 
 pub desk_turn-requires : goal.desk_turn-requires
 desk_turn-requires c =
-    let r = c.requires in
-    let after_poll = c.poll_turn.ensures.turn r.site r.panel r.kept r.history r.stands r.run.0.0.0.0.0.0.0 in
-    let after_decide = c.decide_turn.ensures.turn r.site r.panel r.kept _ after_poll r.run.0.0.0.0.0.0 in
-    let after_supply = c.supply_turn.ensures.turn r.site r.panel r.kept _ after_decide r.run.0.0.0.0.0 in
-    record { site = r.site; panel = r.panel; kept = r.kept; history = _; stands = after_supply; run = r.run.0.0.0.0; few = r.few }
+    let decided = then_turn (first_turn c.poll_turn.ensures.turn) c.decide_turn.ensures.turn in
+    may_turn_then c.requires (then_turn decided c.supply_turn.ensures.turn) c.requires.run.0.0.0.0
 
 pub hold_turn-requires : goal.hold_turn-requires
 hold_turn-requires c =
-    let r = c.requires in
-    let after_poll = c.poll_turn.ensures.turn r.site r.panel r.kept r.history r.stands r.run.0.0.0.0.0.0.0 in
-    let after_decide = c.decide_turn.ensures.turn r.site r.panel r.kept _ after_poll r.run.0.0.0.0.0.0 in
-    let after_supply = c.supply_turn.ensures.turn r.site r.panel r.kept _ after_decide r.run.0.0.0.0.0 in
-    let after_desk = c.desk_turn.ensures.turn r.site r.panel r.kept _ after_supply r.run.0.0.0.0 in
-    record { site = r.site; panel = r.panel; kept = r.kept; history = _; stands = after_desk; run = r.run.0.0.0; few = r.few }
+    let supplied = then_turn (then_turn (first_turn c.poll_turn.ensures.turn) c.decide_turn.ensures.turn) c.supply_turn.ensures.turn in
+    may_turn_then c.requires (then_turn supplied c.desk_turn.ensures.turn) c.requires.run.0.0.0
 
 pub link_turn-requires : goal.link_turn-requires
 link_turn-requires c =
-    let r = c.requires in
-    let after_poll = c.poll_turn.ensures.turn r.site r.panel r.kept r.history r.stands r.run.0.0.0.0.0.0.0 in
-    let after_decide = c.decide_turn.ensures.turn r.site r.panel r.kept _ after_poll r.run.0.0.0.0.0.0 in
-    let after_supply = c.supply_turn.ensures.turn r.site r.panel r.kept _ after_decide r.run.0.0.0.0.0 in
-    let after_desk = c.desk_turn.ensures.turn r.site r.panel r.kept _ after_supply r.run.0.0.0.0 in
-    let after_hold = c.hold_turn.ensures.turn r.site r.panel r.kept _ after_desk r.run.0.0.0 in
-    record { site = r.site; panel = r.panel; kept = r.kept; history = _; stands = after_hold; run = r.run.0.0; few = r.few }
+    let supplied = then_turn (then_turn (first_turn c.poll_turn.ensures.turn) c.decide_turn.ensures.turn) c.supply_turn.ensures.turn in
+    may_turn_then c.requires (then_turn (then_turn supplied c.desk_turn.ensures.turn) c.hold_turn.ensures.turn) c.requires.run.0.0
 
 pub effect_turn-requires-clause-may : goal.effect_turn-requires-clause-may
 effect_turn-requires-clause-may c =
-    let r = c.requires in
-    let after_poll = c.poll_turn.ensures.turn r.site r.panel r.kept r.history r.stands r.run.0.0.0.0.0.0.0 in
-    let after_decide = c.decide_turn.ensures.turn r.site r.panel r.kept _ after_poll r.run.0.0.0.0.0.0 in
-    let after_supply = c.supply_turn.ensures.turn r.site r.panel r.kept _ after_decide r.run.0.0.0.0.0 in
-    let after_desk = c.desk_turn.ensures.turn r.site r.panel r.kept _ after_supply r.run.0.0.0.0 in
-    let after_hold = c.hold_turn.ensures.turn r.site r.panel r.kept _ after_desk r.run.0.0.0 in
-    let after_link = c.link_turn.ensures.turn r.site r.panel r.kept _ after_hold r.run.0.0 in
-    record { site = r.site; panel = r.panel; kept = r.kept; history = _; stands = after_link; run = r.run.0; few = r.few }
+    let supplied = then_turn (then_turn (first_turn c.poll_turn.ensures.turn) c.decide_turn.ensures.turn) c.supply_turn.ensures.turn in
+    let held = then_turn (then_turn supplied c.desk_turn.ensures.turn) c.hold_turn.ensures.turn in
+    may_turn_then c.requires (then_turn held c.link_turn.ensures.turn) c.requires.run.0
 
 pub drive_turn-requires : goal.drive_turn-requires
 drive_turn-requires c =
-    let r = c.requires in
-    let after_poll = c.poll_turn.ensures.turn r.site r.panel r.kept r.history r.stands r.run.0.0.0.0.0.0.0 in
-    let after_decide = c.decide_turn.ensures.turn r.site r.panel r.kept _ after_poll r.run.0.0.0.0.0.0 in
-    let after_supply = c.supply_turn.ensures.turn r.site r.panel r.kept _ after_decide r.run.0.0.0.0.0 in
-    let after_desk = c.desk_turn.ensures.turn r.site r.panel r.kept _ after_supply r.run.0.0.0.0 in
-    let after_hold = c.hold_turn.ensures.turn r.site r.panel r.kept _ after_desk r.run.0.0.0 in
-    let after_link = c.link_turn.ensures.turn r.site r.panel r.kept _ after_hold r.run.0.0 in
-    let after_effect = c.effect_turn.ensures.turn r.site r.panel r.kept _ after_link r.run.0 in
-    record { site = r.site; panel = r.panel; kept = r.kept; history = _; stands = after_effect; run = r.run; few = r.few }
+    let supplied = then_turn (then_turn (first_turn c.poll_turn.ensures.turn) c.decide_turn.ensures.turn) c.supply_turn.ensures.turn in
+    let held = then_turn (then_turn supplied c.desk_turn.ensures.turn) c.hold_turn.ensures.turn in
+    may_turn_then c.requires (then_turn (then_turn held c.link_turn.ensures.turn) c.effect_turn.ensures.turn) c.requires.run
 
 pub returns-clause-turns : goal.returns-clause-turns
-returns-clause-turns c site panel kept history h run =
-    let after_poll = c.poll_turn.ensures.turn site panel kept history h run.0.0.0.0.0.0.0 in
-    let after_decide = c.decide_turn.ensures.turn site panel kept _ after_poll run.0.0.0.0.0.0 in
-    let after_supply = c.supply_turn.ensures.turn site panel kept _ after_decide run.0.0.0.0.0 in
-    let after_desk = c.desk_turn.ensures.turn site panel kept _ after_supply run.0.0.0.0 in
-    let after_hold = c.hold_turn.ensures.turn site panel kept _ after_desk run.0.0.0 in
-    let after_link = c.link_turn.ensures.turn site panel kept _ after_hold run.0.0 in
-    let after_effect = c.effect_turn.ensures.turn site panel kept _ after_link run.0 in
-    c.drive_turn.ensures.turn site panel kept _ after_effect run
+returns-clause-turns c =
+    let supplied = then_turn (then_turn (first_turn c.poll_turn.ensures.turn) c.decide_turn.ensures.turn) c.supply_turn.ensures.turn in
+    let held = then_turn (then_turn supplied c.desk_turn.ensures.turn) c.hold_turn.ensures.turn in
+    (then_turn (then_turn (then_turn held c.link_turn.ensures.turn) c.effect_turn.ensures.turn) c.drive_turn.ensures.turn).makes

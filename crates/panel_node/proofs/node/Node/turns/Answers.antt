@@ -15,8 +15,8 @@ returns-clause-turns g c site panel kept history h keeps run few =
 pub returns-clause-cut : goal.returns-clause-cut
 returns-clause-cut g c honest room site panel kept history file h keeps run few left =
     let keep = c.keep in
-    front_then c.own_turns.ensures.turns h keeps run few keep.result keep.new.journal keep.new.self keep.ensures.kept keep.ensures.same.digest file
-    (keep.ensures.images honest room file left)
+    front_then c.own_turns.ensures.turns h keeps run few keep.result keep.new.journal keep.new.self keep.ensures.kept keep.ensures.leaves.same.digest file
+    (keep.ensures.leaves.left honest room file left)
 
 pub returns-clause-moments : goal.returns-clause-moments
 returns-clause-moments g c honest site panel kept history h keeps run few room =

@@ -1,5 +1,4 @@
-use Rattle.std.proofs.Common.{refl, ap, arith}
-use Rattle.site_types.specs.declared.site.Site.{Site}
+use Rattle.std.proofs.Common.{◌≤◌, refl, arith}
 use Rattle.site_types.specs.declared.word.Word.{Word}
 use Rattle.panel_node.proofs.ZonesShown.{shows_all, shows_next, shows_none_yet}
 use Rattle.panel_node.proofs.node.Node.zones_shown.Goals as goal
@@ -12,15 +11,13 @@ loop-source-init c = record {
 
 pub loop-source-preserved : goal.loop-source-preserved
 loop-source-preserved c =
+    let node = c.args.self.now in
     let l = c.loop-source in
-    let first = l.auto.source in
-    let test = c.loop-source-test.true in
-    let panels = ap (λ (s : Site). s.panels) c.requires.stands.same in
-    let few = c.requires.stands.valid.forms.panels.1 in
     let word = c.word_shown-word in
+    let within : l.source ≤ node.site.panels = (let test = c.loop-source-test.true in omega (arith, test)) in
     record {
-      alarms = shows_next (λ (w : Word). w.alarm) c.args.self.now l.source word.result l.alarms first (omega (arith, test, panels, few)) l.invariant.alarms word.ensures;
-      firsts = shows_next (λ (w : Word). w.first) c.args.self.now l.source word.result l.firsts first (omega (arith, test, panels, few)) l.invariant.firsts word.ensures;
+      alarms = shows_next (λ (w : Word). w.alarm) node l.source word.result l.alarms l.auto.source within l.invariant.alarms word.ensures;
+      firsts = shows_next (λ (w : Word). w.first) node l.source word.result l.firsts l.auto.source within l.invariant.firsts word.ensures;
     }
 
 pub returns : goal.returns

@@ -1,0 +1,273 @@
+-- A loop that moves items out of a lane, run by run.
+use Rattle.std.proofs.Common.{◌≡◌, ℕ, zero, suc, ◌+◌, ◌-◌, ◌<◌, ◌≤◌, List, [], ◌∷◌, ◌++◌, All, Some, slice_get}
+use Rattle.std.proofs.Common.{length, map, take, drop, min, refl, sym, ◌∙◌, ap, subst, arith, append_assoc, append-nil, length-append, length-drop}
+use Rattle.std.proofs.lemmas.List.{map-append}
+use Rattle.std.proofs.lemmas.List.Concat.{flat_map-cons}
+use Rattle.std.proofs.lemmas.List.Elements.{All-cons, All-head, All-nil, All-push, All-tail}
+use Rattle.std.proofs.lemmas.List.FromFn.{length-map-range_with_len}
+use Rattle.std.proofs.lemmas.Grind.{flat_map-append}
+use Rattle.std.proofs.Math.Seq.{take-append-add, drop-append-add}
+use Rattle.std.specs.List.{range_with_len}
+use Rattle.std.specs.Result.{IsOk, OnOk}
+use Rattle.std.specs.Prelude.{Result, Ok, Err}
+use Rattle.tick_units.specs.Lane.{LaneState, with_put}
+use Rattle.answer_lanes.specs.declared.run.Run.{Run}
+use Rattle.answer_lanes.specs.Runs.{AreInLane, HoldsItems, HasShortCount, all_items, front_of, item_at, items_of, rest_of}
+use Rattle.answer_lanes.specs.Moves.{MayMove, MovesItems}
+
+pub range_parts : (a m n : ℕ) → range_with_len a (m + n) ≡ range_with_len a m ++ range_with_len (a + m) n
+range_parts a zero n =
+    let first : 0 + n ≡ n = omega arith in
+    let at : a + 0 ≡ a = omega arith in
+    rw (first, at) refl
+range_parts a (suc m) n =
+    let count : suc m + n ≡ suc (m + n) = omega arith in
+    let at : a + suc m ≡ (a + 1) + m = omega arith in
+    rw (count, at) (ap (λ xs. a ∷ xs) (range_parts (a + 1) m n))
+
+module _ {T : Type 0} (behind : T → ℕ → T) where
+  pub length_run : (run : Run T) → length (items_of behind run) ≡ run.count
+  length_run run = length-map-range_with_len (item_at behind run.first) run.taken run.count
+
+  -- a run is its first items and what is left of it behind them
+  pub run_parts : (run : Run T) (most : ℕ)
+      → items_of behind run ≡ items_of behind (front_of most run) ++ items_of behind (rest_of (min run.count most) run)
+  run_parts run most =
+      let m = min run.count most in
+      let item = item_at behind run.first in
+      let sum : run.count ≡ m + (run.count - m) = omega arith in
+      ap (λ n. map item (range_with_len run.taken n)) sum ∙ ap (map item) (range_parts run.taken m (run.count - m))
+      ∙ map-append item (range_with_len run.taken m) (range_with_len (run.taken + m) (run.count - m))
+
+  pub items_more : (runs : List (Run T)) (run : Run T) → all_items behind (runs ++ run ∷ []) ≡ all_items behind runs ++ items_of behind run
+  items_more runs run =
+      flat_map-append (items_of behind) runs (run ∷ [])
+      ∙ ap (λ xs. all_items behind runs ++ xs) (flat_map-cons (items_of behind) run [] ∙ append-nil (items_of behind run))
+
+  -- there are no more runs than items
+  pub few_runs : (runs : List (Run T)) → All HoldsItems runs → length runs ≤ length (all_items behind runs)
+  few_runs [] held = omega arith
+  few_runs (run ∷ runs) held =
+      let one = (All-head HoldsItems run runs held).some in
+      let more = few_runs runs (All-tail HoldsItems run runs held) in
+      let e = ap length (flat_map-cons (items_of behind) run runs) in
+      let sum = length-append (items_of behind run) (all_items behind runs) in
+      let here = length_run run in
+      omega (arith, one, more, e, sum, here)
+
+  -- some of the items to move were moved, and the others are left
+  pub record Moving (count : ℕ) (start : List (Run T)) (left : ℕ) (into runs : List (Run T)) (capacity : ℕ) : Type 0 where
+    pub moved : all_items behind into ++ take left (all_items behind runs) ≡ take count (all_items behind start)
+    pub rest : drop left (all_items behind runs) ≡ drop count (all_items behind start)
+    pub enough : left ≤ length (all_items behind runs)
+    pub into_held : All HoldsItems into
+    pub held : All HoldsItems runs
+    pub few : length into + left ≤ 32
+    pub room : length runs ≤ capacity
+
+  pub begins : (count : ℕ) (runs into : List (Run T)) (capacity : ℕ) → MayMove behind count runs capacity → count ≤ 32 → into ≡ []
+      → Moving count runs count into runs capacity
+  begins count runs into capacity may few none = subst (λ xs. Moving count runs count xs runs capacity) (sym none) (record {
+    moved = refl;
+    rest = refl;
+    enough = may.enough;
+    into_held = All-nil HoldsItems;
+    held = may.held;
+    few = omega (arith, few);
+    room = may.room;
+  })
+
+  pub ends : (count : ℕ) (start : List (Run T)) (left : ℕ) (into runs : List (Run T)) (capacity : ℕ)
+      → Moving count start left into runs capacity → left ≡ 0 → MovesItems behind count start into runs
+  ends count start left into runs capacity h none =
+      record {
+        first = sym (append-nil (all_items behind into)) ∙ subst (λ n. all_items behind into ++ take n (all_items behind runs) ≡ take count (all_items behind start)) none h.moved;
+        behind_them = subst (λ n. drop n (all_items behind runs) ≡ drop count (all_items behind start)) none h.rest;
+        held = h.into_held;
+        left_held = h.held;
+      }
+
+  -- the first items of the first run are moved next
+  module _ (count : ℕ) (start : List (Run T)) (left : ℕ) (into : List (Run T)) (run : Run T) (tail : List (Run T)) (capacity : ℕ)
+      (h : Moving count start left into (run ∷ tail) capacity) (some : 0 < left) where
+    abbrev pub m : ℕ
+    m = min run.count left
+
+    abbrev pub front : Run T
+    front = front_of left run
+
+    first : HoldsItems run
+    first = All-head HoldsItems run tail h.held
+
+    step : (runs : List (Run T)) → all_items behind (run ∷ tail) ≡ items_of behind front ++ all_items behind runs
+        → All HoldsItems runs → length runs ≤ capacity → Moving count start (left - m) (into ++ front ∷ []) runs capacity
+    step runs parts held room =
+        let F = items_of behind front in
+        let A = all_items behind runs in
+        let I = all_items behind into in
+        let size : length F ≡ m = length_run front in
+        let one = first.some in
+        let is = first.is in
+        let sum : length F + (left - m) ≡ left = omega (arith, size) in
+        let joined : all_items behind (into ++ front ∷ []) ≡ I ++ F =
+        items_more into front in
+        let taken : F ++ take (left - m) A ≡ take left (all_items behind (run ∷ tail)) =
+        sym (take-append-add F A (left - m)) ∙ ap (λ n. take n (F ++ A)) sum ∙ ap (take left) (sym parts) in
+        let dropped : drop (left - m) A ≡ drop left (all_items behind (run ∷ tail)) =
+        sym (drop-append-add F A (left - m)) ∙ ap (λ n. drop n (F ++ A)) sum ∙ ap (drop left) (sym parts) in
+        let all : length (all_items behind (run ∷ tail)) ≡ length F + length A = ap length parts ∙ length-append F A in
+        let enough = h.enough in
+        let few = h.few in
+        let more = length-append into (front ∷ []) in
+        record {
+          moved = ap (λ xs. xs ++ take (left - m) A) joined ∙ append_assoc I F (take (left - m) A) ∙ ap (λ xs. I ++ xs) taken ∙ h.moved;
+          rest = dropped ∙ h.rest;
+          enough = omega (arith, enough, all, size);
+          into_held = All-push HoldsItems into front h.into_held (record { some = omega (arith, one, some); is = omega (arith, is) });
+          held = held;
+          few = omega (arith, few, more, one, some);
+          room = room;
+        }
+
+    pub whole : m ≡ run.count → Moving count start (left - m) (into ++ front ∷ []) tail capacity
+    whole all =
+        let none : items_of behind (rest_of m run) ≡ [] =
+        ap (λ n. map (item_at behind run.first) (range_with_len (run.taken + m) n)) (let z : run.count - m ≡ 0 = omega (arith, all) in z) in
+        let parts = flat_map-cons (items_of behind) run tail
+        ∙ ap (λ xs. xs ++ all_items behind tail) (run_parts run left ∙ ap (λ xs. items_of behind front ++ xs) none ∙ append-nil (items_of behind front)) in
+        let room = h.room in
+        step tail parts (All-tail HoldsItems run tail h.held) (omega (arith, room))
+
+    pub parted : m < run.count → Moving count start (left - m) (into ++ front ∷ []) (rest_of m run ∷ tail) capacity
+    parted less =
+        let parts = flat_map-cons (items_of behind) run tail
+        ∙ ap (λ xs. xs ++ all_items behind tail) (run_parts run left)
+        ∙ append_assoc (items_of behind front) (items_of behind (rest_of m run)) (all_items behind tail)
+        ∙ ap (λ xs. items_of behind front ++ xs) (sym (flat_map-cons (items_of behind) (rest_of m run) tail)) in
+        let is = first.is in
+        let room = h.room in
+        step (rest_of m run ∷ tail) parts
+        (All-cons HoldsItems (rest_of m run) tail (record { some = omega (arith, less); is = omega (arith, is, less) }) (All-tail HoldsItems run tail h.held)) room
+
+-- what a lane keeps of its runs after one more was put
+pub put_more : {T : Type 0} (behind : T → ℕ → T) (runs : List (Run T)) (run : Run T) (put taken capacity room : ℕ)
+    → AreInLane behind runs put taken capacity room → 1 ≤ run.count → HasShortCount run → length (all_items behind runs) + run.count ≤ capacity
+    → AreInLane behind (runs ++ run ∷ []) (put + run.count) taken capacity room
+put_more behind runs run put taken capacity room h some is fits =
+    let more = ap length (items_more behind runs run) ∙ length-append (all_items behind runs) (items_of behind run) in
+    let here = length_run behind run in
+    let counts = h.counts in
+    record {
+      counts = omega (arith, more, here, counts);
+      few = omega (arith, more, here, fits);
+      held = All-push HoldsItems runs run h.held (record { some = some; is = is });
+      same = h.same;
+    }
+
+-- there is room for one run more
+pub has_room : {T : Type 0} (behind : T → ℕ → T) (runs : List (Run T)) (put taken capacity room count : ℕ)
+    → AreInLane behind runs put taken capacity room → 1 ≤ count → length (all_items behind runs) + count ≤ capacity → length runs < room
+has_room behind runs put taken capacity room count h some fits =
+    let few = few_runs behind runs h.held in
+    let same = h.same in
+    omega (arith, few, same, some, fits)
+
+-- a call that answers with a value leaves what it says of one
+pub with_value : {X E P : Type 0} (result : Result X E) → IsOk result → OnOk result P → P
+with_value (Ok x) ok p = p
+with_value (Err e) ok p = absurd (cc)
+
+-- a run of nothing puts nothing
+pub none_put : {T : Type 0} (behind : T → ℕ → T) (lane : LaneState T) (run : Run T) → run.count ≤ 0 → lane ≡ with_put lane (items_of behind run)
+none_put behind lane run none =
+    let zero_count : run.count ≡ 0 = omega (arith, none) in
+    let no_items : items_of behind run ≡ [] = ap (λ n. map (item_at behind run.first) (range_with_len run.taken n)) zero_count in
+    let sum : lane.put ≡ lane.put + 0 = omega arith in
+    let same : lane ≡ with_put lane [] =
+    ap (λ xs. record { items = xs; put = lane.put; taken = lane.taken; quota = lane.quota; capacity = lane.capacity }) (sym (append-nil lane.items))
+    ∙ ap (λ n. record { items = lane.items ++ []; put = n; taken = lane.taken; quota = lane.quota; capacity = lane.capacity }) sum in
+    same ∙ ap (with_put lane) (sym no_items)
+
+-- one run more is put
+pub run_put : {T : Type 0} (behind : T → ℕ → T) (runs more : List (Run T)) (run : Run T) (put taken quota capacity : ℕ) → more ≡ runs ++ run ∷ []
+    → record { items = all_items behind more; put = put + run.count; taken = taken; quota = quota; capacity = capacity }
+    ≡ with_put (record { items = all_items behind runs; put = put; taken = taken; quota = quota; capacity = capacity }) (items_of behind run)
+run_put behind runs more run put taken quota capacity e =
+    let items = ap (all_items behind) e ∙ items_more behind runs run in
+    let count = sym (length_run behind run) in
+    ap (λ xs. record { items = xs; put = put + run.count; taken = taken; quota = quota; capacity = capacity }) items
+    ∙ ap (λ n. record { items = all_items behind runs ++ items_of behind run; put = put + n; taken = taken; quota = quota; capacity = capacity }) count
+
+-- a list with a first one is that one and the others
+pub first_and_rest : {X : Type 0} (xs : List X) (x : X) → slice_get xs 0 ≡ Some x → xs ≡ x ∷ drop 1 xs
+first_and_rest [] x at = absurd (cc)
+first_and_rest (y ∷ xs) x at = let same : y ≡ x = cc in ap (λ z. z ∷ xs) same
+
+-- one step of the loop: the first run was taken out, and its front is moved
+module _ {T : Type 0} (behind : T → ℕ → T) (count : ℕ) (start : List (Run T)) (left : ℕ) (into runs : List (Run T)) (capacity : ℕ)
+    (h : Moving behind count start left into runs capacity) (some : 0 < left) (run front : Run T) (at : slice_get runs 0 ≡ Some run)
+    (is_front : front ≡ front_of left run) (into' : List (Run T)) (more : into' ≡ into ++ front ∷ []) where
+  parts : Moving behind count start left into (run ∷ drop 1 runs) capacity
+  parts = subst (λ xs. Moving behind count start left into xs capacity) (first_and_rest runs run at) h
+
+  counted : front.count ≡ min run.count left
+  counted = ap (λ f. f.count) is_front
+
+  -- there is room for the front
+  pub fits : length into < 32
+  fits = let few = h.few in omega (arith, few, some)
+
+  -- and for what is left of the run
+  pub has_place : length (drop 1 runs) < capacity
+  has_place =
+      let room = h.room in
+      let size = ap length (first_and_rest runs run at) in
+      omega (arith, room, size)
+
+  pub smaller : left - front.count < left
+  smaller =
+      let one = (All-head HoldsItems run (drop 1 runs) parts.held).some in
+      let is = counted in
+      omega (arith, one, some, is)
+
+  pub goes_whole : (runs' : List (Run T)) → run.count ≤ front.count → runs' ≡ drop 1 runs
+      → Moving behind count start (left - front.count) into' runs' capacity
+  goes_whole runs' all is =
+      let same = counted in
+      subst (λ xs. Moving behind count start (left - front.count) xs runs' capacity) (sym more)
+      (subst (λ xs. Moving behind count start (left - front.count) (into ++ front ∷ []) xs capacity) (sym is)
+      (subst (λ f. Moving behind count start (left - f.count) (into ++ f ∷ []) (drop 1 runs) capacity) (sym is_front)
+      (whole behind count start left into run (drop 1 runs) capacity parts some (omega (arith, same, all)))))
+
+  pub goes_parted : (runs' : List (Run T)) → front.count < run.count → runs' ≡ rest_of front.count run ∷ drop 1 runs
+      → Moving behind count start (left - front.count) into' runs' capacity
+  goes_parted runs' less is =
+      let same = counted in
+      subst (λ xs. Moving behind count start (left - front.count) xs runs' capacity) (sym more)
+      (subst (λ xs. Moving behind count start (left - front.count) (into ++ front ∷ []) xs capacity) (sym is)
+      (subst (λ f. Moving behind count start (left - f.count) (into ++ f ∷ []) (rest_of f.count run ∷ drop 1 runs) capacity) (sym is_front)
+      (parted behind count start left into run (drop 1 runs) capacity parts some (omega (arith, same, less)))))
+
+-- so many items may be moved out of a lane that holds at least as many
+pub may_move : {T : Type 0} (behind : T → ℕ → T) (runs : List (Run T)) (put taken capacity room count : ℕ)
+    → AreInLane behind runs put taken capacity room → count ≤ length (all_items behind runs) → MayMove behind count runs room
+may_move behind runs put taken capacity room count h enough =
+    let more = few_runs behind runs h.held in
+    let few = h.few in
+    let same = h.same in
+    record { enough = enough; held = h.held; room = omega (arith, more, few, same) }
+
+-- what a lane keeps of the runs that are left
+pub lane_left : {T : Type 0} (behind : T → ℕ → T) (runs moved left : List (Run T)) (put taken capacity room room' count : ℕ)
+    → AreInLane behind runs put taken capacity room → count ≤ length (all_items behind runs) → MovesItems behind count runs moved left → room' ≡ room
+    → AreInLane behind left put (taken + count) capacity room'
+lane_left behind runs moved left put taken capacity room room' count h enough moves same =
+    let rest = ap length moves.behind_them ∙ length-drop count (all_items behind runs) in
+    let counts = h.counts in
+    let few = h.few in
+    record {
+      counts = omega (arith, rest, counts, enough);
+      few = omega (arith, rest, few);
+      held = moves.left_held;
+      same = same ∙ h.same;
+    }

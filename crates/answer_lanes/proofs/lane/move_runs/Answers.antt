@@ -1,0 +1,65 @@
+use Rattle.std.proofs.Common.{refl, ◌-◌, ◌∙◌, List, ◌∷◌, length, sym, ap, subst, arith}
+use Rattle.answer_lanes.specs.Runs.{rest_of}
+use Rattle.answer_lanes.specs.declared.run.Run.{Run}
+use Rattle.answer_lanes.proofs.Moving.{Moving, ends, fits, goes_parted, goes_whole, has_place, smaller, with_value}
+use Rattle.answer_lanes.proofs.lane.move_runs.Goals as goal
+
+pub loop-left-preserved-then-front-run : goal.loop-left-preserved-then-front-run
+loop-left-preserved-then-front-run g c =
+    let behind = g.T.Numbered.behind in
+    let l = c.loop-left in
+    let run = c.in-Some.run' in
+    let front = c.front-front.result in
+    let at = sym c.pop_front.ensures.value ∙ c.in-Some.is in
+    let popped = c.pop_front.ensures.items in
+    let start = c.args.runs.now.items in
+    let h = l.invariant.moving in
+    let some = c.loop-left-test.true in
+    let is_front = c.front-front.ensures in
+    let pushed = with_value c.try_push-room.result
+    (c.try_push-room.ensures.variant.1 (fits behind c.args.count start l.left l.into.items l.runs.items l.runs.capacity h some run front at is_front _ refl)) c.try_push-room.ensures.ok in
+    let place = has_place behind c.args.count start l.left l.into.items l.runs.items l.runs.capacity h some run front at is_front _ refl in
+    let size = ap (λ b. length b.items) popped in
+    let capacity = ap (λ b. b.capacity) popped in
+    let back = with_value c.try_push_front-room.result (c.try_push_front-room.ensures.variant.1 (omega (arith, place, size, capacity))) c.try_push_front-room.ensures.ok in
+    let left = ap (λ b. b.items) back ∙ ap (λ r. r ∷ c.pop_front.new.self.items) c.rest.ensures
+    ∙ ap (λ (xs : List (Run g.row.T.Denot)). rest_of front.count run ∷ xs) (ap (λ b. b.items) popped) in
+    let same = ap (λ b. b.capacity) back ∙ capacity in
+    record {
+      moving = subst (λ n. Moving behind c.args.count start (l.left - front.count) c.try_push-room.new.self.items c.try_push_front-room.new.self.items n) (sym same)
+          (goes_parted behind c.args.count start l.left l.into.items l.runs.items l.runs.capacity h some run front at is_front c.try_push-room.new.self.items pushed
+          c.try_push_front-room.new.self.items c.if-front-run.true left);
+      same = same ∙ l.invariant.same;
+    }
+
+pub loop-left-smaller : goal.loop-left-smaller
+loop-left-smaller g c =
+    let l = c.loop-left in
+    smaller g.T.Numbered.behind c.args.count c.args.runs.now.items l.left l.into.items l.runs.items l.runs.capacity l.invariant.moving c.loop-left-test.true
+    c.in-Some.run' c.front-front.result (sym c.pop_front.ensures.value ∙ c.in-Some.is) c.front-front.ensures _ refl
+
+pub loop-left-preserved : goal.loop-left-preserved
+loop-left-preserved g c =
+    let behind = g.T.Numbered.behind in
+    let l = c.loop-left in
+    let run = c.in-Some.run' in
+    let front = c.front-front.result in
+    let at = sym c.pop_front.ensures.value ∙ c.in-Some.is in
+    let popped = c.pop_front.ensures.items in
+    let start = c.args.runs.now.items in
+    let h = l.invariant.moving in
+    let some = c.loop-left-test.true in
+    let is_front = c.front-front.ensures in
+    let pushed = with_value c.try_push-room.result
+    (c.try_push-room.ensures.variant.1 (fits behind c.args.count start l.left l.into.items l.runs.items l.runs.capacity h some run front at is_front _ refl)) c.try_push-room.ensures.ok in
+    let same = ap (λ b. b.capacity) popped in
+    record {
+      moving = subst (λ n. Moving behind c.args.count start (l.left - front.count) c.try_push-room.new.self.items c.pop_front.new.self.items n) (sym same)
+          (goes_whole behind c.args.count start l.left l.into.items l.runs.items l.runs.capacity h some run front at is_front c.try_push-room.new.self.items pushed
+          c.pop_front.new.self.items c.if-front-run.false (ap (λ b. b.items) popped));
+      same = same ∙ l.invariant.same;
+    }
+
+pub returns-clause-moves : goal.returns-clause-moves
+returns-clause-moves g c = ends g.T.Numbered.behind c.args.count c.args.runs.now.items c.loop-left.left c.loop-left.into.items c.loop-left.runs.items
+    c.loop-left.runs.capacity c.loop-left.invariant.moving (let none = c.loop-left-test.false in omega (arith, none))

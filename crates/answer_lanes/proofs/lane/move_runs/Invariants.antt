@@ -1,0 +1,12 @@
+use Rattle.std.proofs.Common.{◌≡◌}
+use Rattle.answer_lanes.proofs.Moving.{Moving}
+use Rattle.answer_lanes.proofs.lane.move_runs.Given as goal
+
+abbrev pub invariant-loop-left : goal.invariant-loop-left
+invariant-loop-left g l = record {
+  moving : Moving g.T.Numbered.behind l.fn.count l.initial.runs.items l.left l.into.items l.runs.items l.runs.capacity;
+  same : l.runs.capacity ≡ l.initial.runs.capacity;
+}
+
+abbrev pub decreases-loop-left : goal.decreases-loop-left
+decreases-loop-left g l = l.left

@@ -1,0 +1,141 @@
+ghost use Rattle.std.specs.Prelude.{◌≡◌, ◌+◌, ◌≤◌, [], ◌∷◌, All, IfOk, length, take, drop};
+ghost use Rattle.tick_units.specs.Lane.{HasRoom, after_turn, empty_lane, turn_count, with_put};
+ghost use Rattle.answer_lanes.specs.Runs.{HoldsItems, HasShortCount, all_items, items_of};
+
+use crate::numbered::Numbered;
+use crate::run::Run;
+use arrayvec::ArrayVec;
+use circular_buffer::HeapCircularBuffer;
+use std::alloc::Global;
+use std::marker::Model;
+use tick_units::NoMemory;
+
+/// A queue from one task to another, whose items stand in runs. It holds as many items as its capacity, and a turn of
+/// the taker moves at most its quota. It counts the items that were ever put and taken. Contracts see it as its items,
+/// the oldest first, with both counts, quota and capacity.
+#[derive(Drop)]
+pub struct Lane<T: Numbered> {
+    runs: HeapCircularBuffer<Run<T>>,
+    quota: usize,
+    capacity: usize,
+    put: u64,
+    taken: u64,
+}
+
+impl<T: Numbered> Model for Lane<T> {
+    ghost use Rattle.tick_units.specs.Lane.{LaneState};
+    ghost use Rattle.answer_lanes.specs.Runs.{AreInLane, all_items};
+
+    ghost Value = { LaneState T };
+
+    ghost view = { λ l. record {
+      items = all_items T.behind l.runs.items;
+      put = l.put;
+      taken = l.taken;
+      quota = l.quota;
+      capacity = l.capacity;
+    } };
+
+    ghost invariant = { λ l. AreInLane T.behind l.runs.items l.put l.taken l.capacity l.runs.capacity };
+}
+
+impl<T: Numbered> Lane<T> {
+    /// An empty lane. This takes the memory for all that it may ever hold.
+    pub fn new(alloc: Global, quota: usize, capacity: usize) -> Result<Lane<T>, NoMemory>
+        ensures { IfOk result (λ l. l ≡ empty_lane quota capacity) }
+    {
+        let runs = HeapCircularBuffer::with_capacity(alloc, capacity)?;
+        Ok(Lane {
+            runs,
+            quota,
+            capacity,
+            put: 0,
+            taken: 0,
+        })
+    }
+
+    /// Puts an item at the end. At most 2^40 are ever put.
+    pub fn put(&mut self, item: T)
+        requires { HasRoom self.old 1 }
+        ensures { self.new ≡ with_put self.old (item ∷ []) }
+    {
+        self.put_run(Run::one(item));
+    }
+
+    /// Puts the items of a run at the end.
+    pub fn put_run(&mut self, run: Run<T>)
+        requires room { HasRoom self.old run.count }
+        requires run { HasShortCount run }
+        ensures { self.new ≡ with_put self.old (items_of T.behind run) }
+    {
+        if run.count > 0 {
+            let _room = self.runs.try_push_back(run);
+            self.put += run.count as u64;
+        }
+    }
+
+    /// Moves the first items, as many as the quota allows, into an empty list.
+    pub fn take_turn(&mut self, into: &mut ArrayVec<Run<T>, 32>)
+        requires empty { into.old.items ≡ [] }
+        requires few { self.old.quota ≤ 32 }
+        ensures moved { all_items T.behind into.new.items
+            ≡ take (turn_count self.old) self.old.items }
+        ensures held { All HoldsItems into.new.items }
+        ensures rest { self.new ≡ after_turn self.old }
+        ensures counts { self.old.put ≡ self.old.taken + length self.old.items }
+    {
+        let count = self.quota.min(self.len());
+        self.taken += count as u64;
+        move_runs(&mut self.runs, into, count as u8);
+    }
+
+    /// How many items lie in the lane.
+    pub fn len(&self) -> usize
+        ensures length { result ≡ length self.now.items }
+        ensures counts { self.now.put ≡ self.now.taken + result }
+    {
+        (self.put - self.taken) as usize
+    }
+
+    /// How many items were ever put.
+    pub fn put_count(&self) -> u64
+        ensures { result ≡ self.now.put }
+    {
+        self.put
+    }
+
+    /// How many items were ever taken.
+    pub fn taken_count(&self) -> u64
+        ensures { result ≡ self.now.taken }
+    {
+        self.taken
+    }
+}
+
+ghost use Rattle.answer_lanes.specs.Moves.{MayMove, MovesItems};
+
+// Moves the first items of the runs of a lane into an empty list. The last run that is moved may be parted.
+fn move_runs<T: Numbered>(
+    runs: &mut HeapCircularBuffer<Run<T>>,
+    into: &mut ArrayVec<Run<T>, 32>,
+    count: u8,
+)
+    requires empty { into.old.items ≡ [] }
+    requires few { count ≤ 32 }
+    requires may { MayMove T.behind count runs.old.items runs.old.capacity }
+    ensures moves { MovesItems T.behind count runs.old.items into.new.items runs.new.items }
+    ensures same { runs.new.capacity ≡ runs.old.capacity }
+{
+    let mut left = count;
+    while left > 0 {
+        let Some(run) = runs.pop_front() else {
+            return;
+        };
+        let front = run.front(left);
+        left -= front.count;
+        let _room = into.try_push(front);
+        if front.count < run.count {
+            let _room = runs.try_push_front(run.rest(front.count));
+        }
+    }
+}

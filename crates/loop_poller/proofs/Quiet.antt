@@ -1,0 +1,79 @@
+-- Groups of points that are quiet, and what they answer.
+use Rattle.std.proofs.Common.{IfSome, slice_set, append-nil, ◌≡◌, ℕ, ◌+◌, ◌-◌, ◌*◌, ◌<◌, ◌≤◌, List, [], ◌∷◌, ◌++◌, length, take, drop, get_or, Option, Some}
+use Rattle.std.proofs.Common.{None, true, slice_get, refl, sym, ◌∙◌, ap, subst, arith, inl, inr}
+use Rattle.std.proofs.lemmas.Bool.{cases_eq}
+use Rattle.std.proofs.lemmas.List.Elements.{filter_map-append}
+use Rattle.std.specs.Prelude.{replicate}
+use Rattle.std.proofs.lemmas.List.{get_or-replicate, length-replicate, get_or-take, get_or-drop, length-take, length-drop}
+use Rattle.std.proofs.lemmas.List.Sums.{AllPass-from_list_all}
+use Rattle.std.proofs.lemmas.Option.{slice_get-get_or, slice_get_within}
+use Rattle.std.specs.List.{cons_option, filter_map, list_all, range_with_len, slice_range}
+use Rattle.site_types.specs.declared.point_state.PointState.{PointState}
+use Rattle.site_types.specs.declared.point_state.PointState.TheVariants.{Quiet, Alarm, Gone}
+use Rattle.loop_poller.specs.declared.group.Group.{Group}
+use Rattle.loop_poller.specs.Groups.{AreGroups, FollowFrom, is_quiet_state}
+use Rattle.loop_poller.proofs.Lines.{set_at, set_past}
+use Rattle.loop_poller.proofs.Windows.{range-more}
+
+quiet_is : (state : PointState) → is_quiet_state state ≡ true → state ≡ Quiet
+quiet_is Quiet e = refl
+quiet_is Alarm e = absurd (cc)
+quiet_is Gone e = absurd (cc)
+
+-- a part of the states that are all quiet
+pub quiet_part : (states : List PointState) (first count : ℕ) → first + count ≤ length states
+    → list_all is_quiet_state (slice_range states first (first + count)) ≡ true → (k : ℕ) → k < count → slice_get states (first + k) ≡ Some Quiet
+quiet_part states first count fits all k below =
+    let size : first + count - first ≡ count = omega arith in
+    let long : length (take count (drop first states)) ≡ count = simp (length-take, length-drop) (omega (arith, fits)) in
+    let part : list_all is_quiet_state (take count (drop first states)) ≡ true = ap (λ n. list_all is_quiet_state (take n (drop first states))) (sym size) ∙ all in
+    let passes = AllPass-from_list_all is_quiet_state (take count (drop first states)) part k Quiet (omega (arith, long, below)) in
+    let read : get_or (take count (drop first states)) k Quiet ≡ get_or states (first + k) Quiet = rw (get_or-take, get_or-drop) refl in
+    slice_get-get_or states (first + k) Quiet (omega (arith, fits, below))
+    ∙ ap Some (quiet_is (get_or states (first + k) Quiet) (ap is_quiet_state (sym read) ∙ passes))
+
+-- one address more was looked at, and the point there follows the others
+pub found_next : (f : ℕ → Option ℕ) (first n begin count point : ℕ) → filter_map f (range_with_len first n) ≡ range_with_len begin count
+    → f (first + n) ≡ Some point → point ≡ begin + count → filter_map f (range_with_len first (n + 1)) ≡ range_with_len begin (count + 1)
+found_next f first n begin count point found at next =
+    let here : filter_map f ((first + n) ∷ []) ≡ (begin + count) ∷ [] = ap (λ o. cons_option o []) at ∙ ap (λ k. k ∷ []) next in
+    ap (filter_map f) (range-more first n) ∙ filter_map-append f (range_with_len first n) ((first + n) ∷ [])
+    ∙ ap (λ xs. xs ++ filter_map f ((first + n) ∷ [])) found ∙ ap (λ xs. range_with_len begin count ++ xs) here ∙ sym (range-more begin count)
+
+-- or is the first one
+pub found_first : (f : ℕ → Option ℕ) (first n begin count point : ℕ) → filter_map f (range_with_len first n) ≡ range_with_len begin count
+    → f (first + n) ≡ Some point → count ≡ 0 → filter_map f (range_with_len first (n + 1)) ≡ range_with_len point (count + 1)
+found_first f first n begin count point found at none =
+    let empty : range_with_len begin count ≡ range_with_len point count = ap (range_with_len begin) none ∙ ap (range_with_len point) (sym none) in
+    found_next f first n point count point (found ∙ empty) at (omega (arith, none))
+
+-- or there is none
+pub found_gone : (f : ℕ → Option ℕ) (first n begin count : ℕ) → filter_map f (range_with_len first n) ≡ range_with_len begin count
+    → f (first + n) ≡ None → filter_map f (range_with_len first (n + 1)) ≡ range_with_len begin count
+found_gone f first n begin count found gone =
+    let here : filter_map f ((first + n) ∷ []) ≡ [] = ap (λ o. cons_option o []) gone in
+    ap (filter_map f) (range-more first n) ∙ filter_map-append f (range_with_len first n) ((first + n) ∷ [])
+    ∙ ap (λ xs. xs ++ filter_map f ((first + n) ∷ [])) found ∙ ap (λ xs. range_with_len begin count ++ xs) here ∙ append-nil (range_with_len begin count)
+
+pub if_some : {X : Type 0} (P : X → Type 0) (o : Option X) (x : X) → IfSome o P → o ≡ Some x → P x
+if_some P None x p e = absurd (cc)
+if_some P (Some y) x p e = let same : y ≡ x = cc in subst P same p
+
+-- one group more was found
+pub groups_more : (points : List (Option ℕ)) (groups : List (Option Group)) (number : ℕ) (made : Option Group) → number < length groups
+    → IfSome made (λ group. FollowFrom points (8 * number + 1) group) → AreGroups points groups → AreGroups points (slice_set groups number made)
+groups_more points groups number made within is groups_are k group at =
+    elim (cases_eq k number) [
+      | inl same ↦ subst (λ n. FollowFrom points (8 * n + 1) group) (sym same)
+          (if_some (λ g. FollowFrom points (8 * number + 1) g) made group is (set_at groups number k made (Some group) at within same))
+      | inr other ↦ groups_are k group (set_past groups number k made (Some group) at other)
+    ]
+
+-- at the start there is none
+pub no_groups : (points : List (Option ℕ)) (count : ℕ) → AreGroups points (replicate count None)
+no_groups points count number group at =
+    let within = slice_get_within (replicate count None) number (Some group) at in
+    let size = length-replicate {A = Option Group} count None in
+    let read = slice_get-get_or (replicate {A = Option Group} count None) number None within in
+    let none = get_or-replicate {A = Option Group} count number None None (omega (arith, within, size)) in
+    absurd (cc)

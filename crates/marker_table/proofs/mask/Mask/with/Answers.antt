@@ -1,0 +1,8 @@
+use Rattle.std.proofs.Common.{sym, ◌∙◌}
+use Rattle.marker_table.proofs.Counts.{mask_with}
+use Rattle.marker_table.proofs.mask.Mask.with.Goals as goal
+
+pub returns : goal.returns
+returns c =
+    mask_with c.args.self c.args.input c.bit-bit.result c.with_bit_32.result c.bit-bit.ensures (sym c.is_with.ensures ∙ c.if-not-is_with.false)
+    (sym c.has_bit_32.ensures ∙ c.if-has_bit_32.false) c.with_bit_32.ensures.value

@@ -1,0 +1,48 @@
+ghost use Rattle.std.specs.Prelude.{◌≡◌, IfSome};
+ghost use Rattle.marker_table.specs.Table.{AddsInput, count_in, no_mask};
+
+use crate::facts::Facts;
+use crate::input::Input;
+use crate::values::Values;
+use site_types::{has_bit_32, with_bit_32};
+
+/// Some bits of one word: of the zones of a panel, their call points, the faults, or 32 markers.
+#[derive(Clone, Copy, Debug, PartialEq, Eq)]
+pub(crate) struct Mask {
+    // Any input in the word.
+    input: Input,
+    bits: u32,
+}
+
+impl Mask {
+    // One input alone.
+    pub(crate) fn of(input: Input) -> Mask
+        ensures { AddsInput input (no_mask input) result }
+    {
+        Mask {
+            input,
+            bits: with_bit_32(0, input.bit(), true),
+        }
+    }
+
+    // The mask with one input more, where that lies in its word and isn't in it yet.
+    pub(crate) fn with(self, input: Input) -> Option<Mask>
+        ensures { IfSome result (AddsInput input self) }
+    {
+        let bit = input.bit();
+        if !self.input.is_with(input) || has_bit_32(self.bits, bit) {
+            return None;
+        }
+        Some(Mask {
+            input: self.input,
+            bits: with_bit_32(self.bits, bit, true),
+        })
+    }
+
+    // How many of its inputs are true.
+    pub(crate) fn count(self, facts: &Facts, values: &Values) -> u32
+        ensures { result ≡ count_in facts.now values.now self }
+    {
+        (self.bits & self.input.word(facts, values)).count_ones()
+    }
+}
