@@ -1,9 +1,9 @@
 -- A loop that moves items out of a lane, run by run.
 use Rattle.std.proofs.Common.{◌≡◌, ℕ, zero, suc, ◌+◌, ◌-◌, ◌<◌, ◌≤◌, List, [], ◌∷◌, ◌++◌, All, Some, slice_get}
 use Rattle.std.proofs.Common.{length, map, take, drop, min, refl, sym, ◌∙◌, ap, subst, arith, append_assoc, append-nil, length-append, length-drop}
-use Rattle.std.proofs.lemmas.List.{map-append}
+use Rattle.std.proofs.lemmas.List.{map-append, take-append-drop}
 use Rattle.std.proofs.lemmas.List.Concat.{flat_map-cons}
-use Rattle.std.proofs.lemmas.List.Elements.{All-cons, All-head, All-nil, All-push, All-tail}
+use Rattle.std.proofs.lemmas.List.Elements.{All-append, All-cons, All-drop, All-head, All-nil, All-push, All-tail, All-take}
 use Rattle.std.proofs.lemmas.List.FromFn.{length-map-range_with_len}
 use Rattle.std.proofs.lemmas.Grind.{flat_map-append}
 use Rattle.std.proofs.Math.Seq.{take-append-add, drop-append-add}
@@ -13,7 +13,7 @@ use Rattle.std.specs.Prelude.{Result, Ok, Err}
 use Rattle.tick_units.specs.Lane.{LaneState, with_put}
 use Rattle.answer_lanes.specs.declared.run.Run.{Run}
 use Rattle.answer_lanes.specs.Runs.{AreInLane, HoldsItems, HasShortCount, all_items, front_of, item_at, items_of, rest_of}
-use Rattle.answer_lanes.specs.Moves.{MayMove, MovesItems}
+use Rattle.answer_lanes.specs.Moves.{AreWhole, MayMove, MovesItems}
 
 pub range_parts : (a m n : ℕ) → range_with_len a (m + n) ≡ range_with_len a m ++ range_with_len (a + m) n
 range_parts a zero n =
@@ -87,6 +87,46 @@ module _ {T : Type 0} (behind : T → ℕ → T) where
         left_held = h.held;
       }
 
+  -- runs are moved next, and behind them others are left
+  step : (count : ℕ) (start : List (Run T)) (left : ℕ) (into runs : List (Run T)) (capacity : ℕ) → Moving count start left into runs capacity
+      → (moved rest : List (Run T)) (n : ℕ) → n ≡ length (all_items behind moved) → n ≤ left
+      → all_items behind runs ≡ all_items behind moved ++ all_items behind rest → All HoldsItems moved → All HoldsItems rest → length rest ≤ capacity
+      → Moving count start (left - n) (into ++ moved) rest capacity
+  step count start left into runs capacity h moved rest n size fits parts moved_held held room =
+      let F = all_items behind moved in
+      let A = all_items behind rest in
+      let I = all_items behind into in
+      let sum : length F + (left - n) ≡ left = omega (arith, size, fits) in
+      let joined : all_items behind (into ++ moved) ≡ I ++ F = flat_map-append (items_of behind) into moved in
+      let taken : F ++ take (left - n) A ≡ take left (all_items behind runs) =
+      sym (take-append-add F A (left - n)) ∙ ap (λ k. take k (F ++ A)) sum ∙ ap (take left) (sym parts) in
+      let dropped : drop (left - n) A ≡ drop left (all_items behind runs) =
+      sym (drop-append-add F A (left - n)) ∙ ap (λ k. drop k (F ++ A)) sum ∙ ap (drop left) (sym parts) in
+      let all : length (all_items behind runs) ≡ length F + length A = ap length parts ∙ length-append F A in
+      let enough = h.enough in
+      let few = h.few in
+      let most = few_runs moved moved_held in
+      let more = length-append into moved in
+      record {
+        moved = ap (λ xs. xs ++ take (left - n) A) joined ∙ append_assoc I F (take (left - n) A) ∙ ap (λ xs. I ++ xs) taken ∙ h.moved;
+        rest = dropped ∙ h.rest;
+        enough = omega (arith, enough, all, size);
+        into_held = All-append HoldsItems into moved h.into_held moved_held;
+        held = held;
+        few = omega (arith, few, more, most, size, fits);
+        room = room;
+      }
+
+  -- the first runs are moved whole
+  pub moves_whole : (count : ℕ) (start : List (Run T)) (left : ℕ) (into runs : List (Run T)) (capacity : ℕ) → Moving count start left into runs capacity
+      → (k n : ℕ) → AreWhole behind left runs k n → Moving count start (left - n) (into ++ take k runs) (drop k runs) capacity
+  moves_whole count start left into runs capacity h k n whole =
+      let parts = ap (all_items behind) (sym (take-append-drop k runs)) ∙ flat_map-append (items_of behind) (take k runs) (drop k runs) in
+      let room = h.room in
+      let size = length-drop k runs in
+      step count start left into runs capacity h (take k runs) (drop k runs) n whole.hold whole.few parts
+      (All-take HoldsItems k runs h.held) (All-drop HoldsItems k runs h.held) (omega (arith, room, size))
+
   -- the first items of the first run are moved next
   module _ (count : ℕ) (start : List (Run T)) (left : ℕ) (into : List (Run T)) (run : Run T) (tail : List (Run T)) (capacity : ℕ)
       (h : Moving count start left into (run ∷ tail) capacity) (some : 0 < left) where
@@ -99,35 +139,18 @@ module _ {T : Type 0} (behind : T → ℕ → T) where
     first : HoldsItems run
     first = All-head HoldsItems run tail h.held
 
-    step : (runs : List (Run T)) → all_items behind (run ∷ tail) ≡ items_of behind front ++ all_items behind runs
-        → All HoldsItems runs → length runs ≤ capacity → Moving count start (left - m) (into ++ front ∷ []) runs capacity
-    step runs parts held room =
-        let F = items_of behind front in
-        let A = all_items behind runs in
-        let I = all_items behind into in
-        let size : length F ≡ m = length_run front in
+    one_run : all_items behind (front ∷ []) ≡ items_of behind front
+    one_run = flat_map-cons (items_of behind) front [] ∙ append-nil (items_of behind front)
+
+    front_moves : (rest : List (Run T)) → all_items behind (run ∷ tail) ≡ items_of behind front ++ all_items behind rest
+        → All HoldsItems rest → length rest ≤ capacity → Moving count start (left - m) (into ++ front ∷ []) rest capacity
+    front_moves rest parts held room =
         let one = first.some in
         let is = first.is in
-        let sum : length F + (left - m) ≡ left = omega (arith, size) in
-        let joined : all_items behind (into ++ front ∷ []) ≡ I ++ F =
-        items_more into front in
-        let taken : F ++ take (left - m) A ≡ take left (all_items behind (run ∷ tail)) =
-        sym (take-append-add F A (left - m)) ∙ ap (λ n. take n (F ++ A)) sum ∙ ap (take left) (sym parts) in
-        let dropped : drop (left - m) A ≡ drop left (all_items behind (run ∷ tail)) =
-        sym (drop-append-add F A (left - m)) ∙ ap (λ n. drop n (F ++ A)) sum ∙ ap (drop left) (sym parts) in
-        let all : length (all_items behind (run ∷ tail)) ≡ length F + length A = ap length parts ∙ length-append F A in
-        let enough = h.enough in
-        let few = h.few in
-        let more = length-append into (front ∷ []) in
-        record {
-          moved = ap (λ xs. xs ++ take (left - m) A) joined ∙ append_assoc I F (take (left - m) A) ∙ ap (λ xs. I ++ xs) taken ∙ h.moved;
-          rest = dropped ∙ h.rest;
-          enough = omega (arith, enough, all, size);
-          into_held = All-push HoldsItems into front h.into_held (record { some = omega (arith, one, some); is = omega (arith, is) });
-          held = held;
-          few = omega (arith, few, more, one, some);
-          room = room;
-        }
+        let size : m ≡ length (all_items behind (front ∷ [])) = sym (ap length one_run ∙ length_run front) in
+        step count start left into (run ∷ tail) capacity h (front ∷ []) rest m size (omega arith)
+        (parts ∙ ap (λ xs. xs ++ all_items behind rest) (sym one_run))
+        (All-cons HoldsItems front [] (record { some = omega (arith, one, some); is = omega (arith, is) }) (All-nil HoldsItems)) held room
 
     pub whole : m ≡ run.count → Moving count start (left - m) (into ++ front ∷ []) tail capacity
     whole all =
@@ -136,7 +159,7 @@ module _ {T : Type 0} (behind : T → ℕ → T) where
         let parts = flat_map-cons (items_of behind) run tail
         ∙ ap (λ xs. xs ++ all_items behind tail) (run_parts run left ∙ ap (λ xs. items_of behind front ++ xs) none ∙ append-nil (items_of behind front)) in
         let room = h.room in
-        step tail parts (All-tail HoldsItems run tail h.held) (omega (arith, room))
+        front_moves tail parts (All-tail HoldsItems run tail h.held) (omega (arith, room))
 
     pub parted : m < run.count → Moving count start (left - m) (into ++ front ∷ []) (rest_of m run ∷ tail) capacity
     parted less =
@@ -146,7 +169,7 @@ module _ {T : Type 0} (behind : T → ℕ → T) where
         ∙ ap (λ xs. items_of behind front ++ xs) (sym (flat_map-cons (items_of behind) (rest_of m run) tail)) in
         let is = first.is in
         let room = h.room in
-        step (rest_of m run ∷ tail) parts
+        front_moves (rest_of m run ∷ tail) parts
         (All-cons HoldsItems (rest_of m run) tail (record { some = omega (arith, less); is = omega (arith, is, less) }) (All-tail HoldsItems run tail h.held)) room
 
 -- what a lane keeps of its runs after one more was put
@@ -213,6 +236,9 @@ module _ {T : Type 0} (behind : T → ℕ → T) (count : ℕ) (start : List (Ru
   counted : front.count ≡ min run.count left
   counted = ap (λ f. f.count) is_front
 
+  pub short : HasShortCount run
+  short = (All-head HoldsItems run (drop 1 runs) parts.held).is
+
   -- there is room for the front
   pub fits : length into < 32
   fits = let few = h.few in omega (arith, few, some)
@@ -271,3 +297,20 @@ lane_left behind runs moved left put taken capacity room room' count h enough mo
       held = moves.left_held;
       same = same ∙ h.same;
     }
+
+-- runs were moved whole before the loop: up to the seam of the buffer, and behind it
+module _ {T : Type 0} (behind : T → ℕ → T) (count : ℕ) (runs : List (Run T)) (capacity k n : ℕ) (into into' runs' : List (Run T))
+    (may : MayMove behind count runs capacity) (few : count ≤ 32) (none : into ≡ [])
+    (first : AreWhole behind count runs k n) (more : into' ≡ into ++ take k runs) (rest : runs' ≡ drop k runs) where
+  pub up_to_the_seam : Moving behind count runs (count - n) into' runs' capacity
+  up_to_the_seam =
+      subst (λ xs. Moving behind count runs (count - n) xs runs' capacity) (sym more)
+      (subst (λ xs. Moving behind count runs (count - n) (into ++ take k runs) xs capacity) (sym rest)
+      (moves_whole behind count runs count into runs capacity (begins behind count runs into capacity may few none) k n first))
+
+  pub behind_the_seam : (k' n' : ℕ) (into'' runs'' : List (Run T)) → AreWhole behind (count - n) runs' k' n' → into'' ≡ into' ++ take k' runs'
+      → runs'' ≡ drop k' runs' → Moving behind count runs (count - n - n') into'' runs'' capacity
+  behind_the_seam k' n' into'' runs'' second more' rest' =
+      subst (λ xs. Moving behind count runs (count - n - n') xs runs'' capacity) (sym more')
+      (subst (λ xs. Moving behind count runs (count - n - n') (into' ++ take k' runs') xs capacity) (sym rest')
+      (moves_whole behind count runs (count - n) into' runs' capacity up_to_the_seam k' n' second))

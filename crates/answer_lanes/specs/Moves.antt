@@ -16,3 +16,9 @@ module _ {T : Type 0} (behind : T → ℕ → T) where
     pub behind_them : all_items behind left ≡ drop count (all_items behind runs)
     pub held : All HoldsItems moved
     pub left_held : All HoldsItems left
+
+  -- the first runs of a list, of which there are so many, hold so many items together, and no more than may be moved
+  pub record AreWhole (most : ℕ) (runs : List (Run T)) (count items : ℕ) : Type 0 where
+    pub within : count ≤ length runs
+    pub hold : items ≡ length (all_items behind (take count runs))
+    pub few : items ≤ most

@@ -4,6 +4,7 @@ ghost use Rattle.answer_lanes.specs.Runs.{HoldsItems, HasShortCount, all_items, 
 
 use crate::numbered::Numbered;
 use crate::run::Run;
+use crate::whole::{Whole, whole_runs};
 use arrayvec::ArrayVec;
 use circular_buffer::HeapCircularBuffer;
 use std::alloc::Global;
@@ -112,7 +113,8 @@ impl<T: Numbered> Lane<T> {
     }
 }
 
-ghost use Rattle.answer_lanes.specs.Moves.{MayMove, MovesItems};
+ghost use Rattle.std.specs.Prelude.{◌++◌};
+ghost use Rattle.answer_lanes.specs.Moves.{AreWhole, MayMove, MovesItems};
 
 // Moves the first items of the runs of a lane into an empty list. The last run that is moved may be parted.
 fn move_runs<T: Numbered>(
@@ -126,7 +128,11 @@ fn move_runs<T: Numbered>(
     ensures moves { MovesItems T.behind count runs.old.items into.new.items runs.new.items }
     ensures same { runs.new.capacity ≡ runs.old.capacity }
 {
-    let mut left = count;
+    // Where the runs wrap round, the second call moves those behind the seam.
+    let before_the_seam = move_whole(runs, into, count);
+    let still = count - before_the_seam.items;
+    let behind_the_seam = move_whole(runs, into, still);
+    let mut left = still - behind_the_seam.items;
     while left > 0 {
         let Some(run) = runs.pop_front() else {
             return;
@@ -138,4 +144,25 @@ fn move_runs<T: Numbered>(
             let _room = runs.try_push_front(run.rest(front.count));
         }
     }
+}
+
+// Moves runs that lie behind one another from the front of a lane behind those in a list, while their items are few
+// enough.
+fn move_whole<T: Numbered>(
+    runs: &mut HeapCircularBuffer<Run<T>>,
+    into: &mut ArrayVec<Run<T>, 32>,
+    most: u8,
+) -> Whole
+    requires held { All HoldsItems runs.old.items }
+    requires room { length into.old.items + most ≤ 32 }
+    ensures whole { AreWhole T.behind most runs.old.items result.runs result.items }
+    ensures moved { into.new.items ≡ into.old.items ++ take result.runs runs.old.items }
+    ensures rest { runs.new.items ≡ drop result.runs runs.old.items }
+    ensures same { runs.new.capacity ≡ runs.old.capacity }
+{
+    let (front, _) = runs.as_slices();
+    let whole = whole_runs(front, most);
+    let _room = into.try_extend_from_slice(&front[..whole.runs]);
+    runs.truncate_front(runs.len() - whole.runs);
+    whole
 }

@@ -11,6 +11,7 @@ mod expanding;
 mod lane;
 mod numbered;
 mod run;
+mod whole;
 
 pub use expanding::take_items;
 pub use lane::Lane;

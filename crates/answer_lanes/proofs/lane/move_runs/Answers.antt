@@ -1,8 +1,39 @@
-use Rattle.std.proofs.Common.{refl, ◌-◌, ◌∙◌, List, ◌∷◌, length, sym, ap, subst, arith}
+use Rattle.std.proofs.Common.{rules, refl, ◌-◌, ◌∙◌, List, ◌∷◌, length, sym, ap, subst, arith}
 use Rattle.answer_lanes.specs.Runs.{rest_of}
 use Rattle.answer_lanes.specs.declared.run.Run.{Run}
-use Rattle.answer_lanes.proofs.Moving.{Moving, ends, fits, goes_parted, goes_whole, has_place, smaller, with_value}
+use Rattle.answer_lanes.proofs.Moving.{Moving, behind_the_seam, ends, fits, goes_parted, goes_whole, has_place, short, smaller, up_to_the_seam, with_value}
 use Rattle.answer_lanes.proofs.lane.move_runs.Goals as goal
+
+pub move_whole-behind_the_seam-requires : goal.move_whole-behind_the_seam-requires
+move_whole-behind_the_seam-requires g c =
+    let first = c.move_whole-before_the_seam in
+    let left = up_to_the_seam g.T.Numbered.behind c.args.count c.args.runs.now.items c.args.runs.now.capacity first.result.runs first.result.items
+    c.args.into.now.items first.new.into.items first.new.runs.items c.requires.may c.requires.few c.requires.empty
+    first.ensures.whole first.ensures.moved first.ensures.rest in
+    ((search rules), (left.held, left.few))
+
+pub loop-left-init : goal.loop-left-init
+loop-left-init g c =
+    let behind = g.T.Numbered.behind in
+    let count = c.args.count in
+    let runs = c.args.runs.now in
+    let first = c.move_whole-before_the_seam in
+    let second = c.move_whole-behind_the_seam in
+    let same = second.ensures.same ∙ first.ensures.same in
+    record {
+      moving = subst (λ n. Moving behind count runs.items (count - first.result.items - second.result.items) second.new.into.items second.new.runs.items n) (sym same)
+          (behind_the_seam behind count runs.items runs.capacity first.result.runs first.result.items c.args.into.now.items first.new.into.items
+          first.new.runs.items c.requires.may c.requires.few c.requires.empty first.ensures.whole first.ensures.moved first.ensures.rest
+          second.result.runs second.result.items second.new.into.items second.new.runs.items
+          second.ensures.whole second.ensures.moved second.ensures.rest);
+      same = same;
+    }
+
+pub rest-requires-clause-run : goal.rest-requires-clause-run
+rest-requires-clause-run g c =
+    let l = c.loop-left in
+    short g.T.Numbered.behind c.args.count c.args.runs.now.items l.left l.into.items l.runs.items l.runs.capacity l.invariant.moving c.loop-left-test.true
+    c.in-Some.run' c.front-front.result (sym c.pop_front.ensures.value ∙ c.in-Some.is) c.front-front.ensures _ refl
 
 pub loop-left-preserved-then-front-run : goal.loop-left-preserved-then-front-run
 loop-left-preserved-then-front-run g c =

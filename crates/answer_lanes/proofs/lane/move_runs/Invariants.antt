@@ -4,8 +4,8 @@ use Rattle.answer_lanes.proofs.lane.move_runs.Given as goal
 
 abbrev pub invariant-loop-left : goal.invariant-loop-left
 invariant-loop-left g l = record {
-  moving : Moving g.T.Numbered.behind l.fn.count l.initial.runs.items l.left l.into.items l.runs.items l.runs.capacity;
-  same : l.runs.capacity ≡ l.initial.runs.capacity;
+  moving : Moving g.T.Numbered.behind l.fn.count l.fn.runs.items l.left l.into.items l.runs.items l.runs.capacity;
+  same : l.runs.capacity ≡ l.fn.runs.capacity;
 }
 
 abbrev pub decreases-loop-left : goal.decreases-loop-left
