@@ -1,7 +1,8 @@
 -- A loop that moves items out of a lane, run by run.
 use Rattle.std.proofs.Common.{◌≡◌, ℕ, zero, suc, ◌+◌, ◌-◌, ◌<◌, ◌≤◌, List, [], ◌∷◌, ◌++◌, All, Some, slice_get}
-use Rattle.std.proofs.Common.{length, map, take, drop, min, refl, sym, ◌∙◌, ap, subst, arith, append_assoc, append-nil, length-append, length-drop}
+use Rattle.std.proofs.Common.{length, map, take, drop, min, refl, sym, ◌∙◌, ap, subst, arith, append_assoc, append-nil, length-append, length-drop, inl, inr}
 use Rattle.std.proofs.lemmas.List.{map-append, take-append-drop}
+use Rattle.std.proofs.lemmas.Bool.Decides.{leb_tells}
 use Rattle.std.proofs.lemmas.List.Concat.{flat_map-cons}
 use Rattle.std.proofs.lemmas.List.Elements.{All-append, All-cons, All-drop, All-head, All-nil, All-push, All-tail, All-take}
 use Rattle.std.proofs.lemmas.List.FromFn.{length-map-range_with_len}
@@ -256,7 +257,7 @@ module _ {T : Type 0} (behind : T → ℕ → T) (count : ℕ) (start : List (Ru
       let is = counted in
       omega (arith, one, some, is)
 
-  pub goes_whole : (runs' : List (Run T)) → run.count ≤ front.count → runs' ≡ drop 1 runs
+  goes_whole : (runs' : List (Run T)) → run.count ≤ front.count → runs' ≡ drop 1 runs
       → Moving behind count start (left - front.count) into' runs' capacity
   goes_whole runs' all is =
       let same = counted in
@@ -265,7 +266,7 @@ module _ {T : Type 0} (behind : T → ℕ → T) (count : ℕ) (start : List (Ru
       (subst (λ f. Moving behind count start (left - f.count) (into ++ f ∷ []) (drop 1 runs) capacity) (sym is_front)
       (whole behind count start left into run (drop 1 runs) capacity parts some (omega (arith, same, all)))))
 
-  pub goes_parted : (runs' : List (Run T)) → front.count < run.count → runs' ≡ rest_of front.count run ∷ drop 1 runs
+  goes_parted : (runs' : List (Run T)) → front.count < run.count → runs' ≡ rest_of front.count run ∷ drop 1 runs
       → Moving behind count start (left - front.count) into' runs' capacity
   goes_parted runs' less is =
       let same = counted in
@@ -273,6 +274,21 @@ module _ {T : Type 0} (behind : T → ℕ → T) (count : ℕ) (start : List (Ru
       (subst (λ xs. Moving behind count start (left - front.count) (into ++ front ∷ []) xs capacity) (sym is)
       (subst (λ f. Moving behind count start (left - f.count) (into ++ f ∷ []) (rest_of f.count run ∷ drop 1 runs) capacity) (sym is_front)
       (parted behind count start left into run (drop 1 runs) capacity parts some (omega (arith, same, less)))))
+
+  -- either way some are left to move
+  pub goes_on : (runs' : List (Run T)) → (run.count ≤ front.count → runs' ≡ drop 1 runs)
+      → (front.count < run.count → runs' ≡ rest_of front.count run ∷ drop 1 runs)
+      → Moving behind count start (left - front.count) into' runs' capacity
+  goes_on runs' whole_run parted_run =
+      elim (leb_tells run.count front.count) [
+        | inl all ↦ goes_whole runs' all.1 (whole_run all.1)
+        | inr not_all ↦
+            (
+            let more = not_all.1 in
+            let less : front.count < run.count = omega (arith, more) in
+            goes_parted runs' less (parted_run less)
+            )
+      ]
 
 -- so many items may be moved out of a lane that holds at least as many
 pub may_move : {T : Type 0} (behind : T → ℕ → T) (runs : List (Run T)) (put taken capacity room count : ℕ)

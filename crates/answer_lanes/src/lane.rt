@@ -113,7 +113,8 @@ impl<T: Numbered> Lane<T> {
     }
 }
 
-ghost use Rattle.std.specs.Prelude.{◌++◌};
+ghost use Rattle.std.specs.Prelude.{◌++◌, ◌<◌};
+ghost use Rattle.answer_lanes.specs.Runs.{rest_of};
 ghost use Rattle.answer_lanes.specs.Moves.{AreWhole, MayMove, MovesItems};
 
 // Moves the first items of the runs of a lane into an empty list. The last run that is moved may be parted.
@@ -140,9 +141,21 @@ fn move_runs<T: Numbered>(
         let front = run.front(left);
         left -= front.count;
         let _room = into.try_push(front);
-        if front.count < run.count {
-            let _room = runs.try_push_front(run.rest(front.count));
-        }
+        put_back(runs, &run, front.count);
+    }
+}
+
+// Puts what is left of a run, of which so many items were taken, back to the front of a lane.
+fn put_back<T: Numbered>(runs: &mut HeapCircularBuffer<Run<T>>, run: &Run<T>, taken: u8)
+    requires run { HasShortCount run.now }
+    requires room { length runs.old.items < runs.old.capacity }
+    ensures whole { run.now.count ≤ taken → runs.new ≡ runs.old }
+    ensures parted { taken < run.now.count
+        → runs.new.items ≡ rest_of taken run.now ∷ runs.old.items }
+    ensures same { runs.new.capacity ≡ runs.old.capacity }
+{
+    if taken < run.count {
+        let _room = runs.try_push_front(run.rest(taken));
     }
 }
 

@@ -1,7 +1,6 @@
-use Rattle.std.proofs.Common.{rules, refl, ◌-◌, ◌∙◌, List, ◌∷◌, length, sym, ap, subst, arith}
+use Rattle.std.proofs.Common.{rules, refl, ◌-◌, ◌∙◌, ◌∷◌, length, sym, ap, subst, arith}
 use Rattle.answer_lanes.specs.Runs.{rest_of}
-use Rattle.answer_lanes.specs.declared.run.Run.{Run}
-use Rattle.answer_lanes.proofs.Moving.{Moving, behind_the_seam, ends, fits, goes_parted, goes_whole, has_place, short, smaller, up_to_the_seam, with_value}
+use Rattle.answer_lanes.proofs.Moving.{Moving, behind_the_seam, ends, fits, goes_on, has_place, short, smaller, up_to_the_seam, with_value}
 use Rattle.answer_lanes.proofs.lane.move_runs.Goals as goal
 
 pub move_whole-behind_the_seam-requires : goal.move_whole-behind_the_seam-requires
@@ -29,39 +28,21 @@ loop-left-init g c =
       same = same;
     }
 
-pub rest-requires-clause-run : goal.rest-requires-clause-run
-rest-requires-clause-run g c =
-    let l = c.loop-left in
-    short g.T.Numbered.behind c.args.count c.args.runs.now.items l.left l.into.items l.runs.items l.runs.capacity l.invariant.moving c.loop-left-test.true
-    c.in-Some.run' c.front-front.result (sym c.pop_front.ensures.value ∙ c.in-Some.is) c.front-front.ensures _ refl
-
-pub loop-left-preserved-then-front-run : goal.loop-left-preserved-then-front-run
-loop-left-preserved-then-front-run g c =
-    let behind = g.T.Numbered.behind in
+pub put_back-requires : goal.put_back-requires
+put_back-requires g c =
     let l = c.loop-left in
     let run = c.in-Some.run' in
-    let front = c.front-front.result in
     let at = sym c.pop_front.ensures.value ∙ c.in-Some.is in
     let popped = c.pop_front.ensures.items in
-    let start = c.args.runs.now.items in
     let h = l.invariant.moving in
     let some = c.loop-left-test.true in
-    let is_front = c.front-front.ensures in
-    let pushed = with_value c.try_push-room.result
-    (c.try_push-room.ensures.variant.1 (fits behind c.args.count start l.left l.into.items l.runs.items l.runs.capacity h some run front at is_front _ refl)) c.try_push-room.ensures.ok in
-    let place = has_place behind c.args.count start l.left l.into.items l.runs.items l.runs.capacity h some run front at is_front _ refl in
+    let short_run = short g.T.Numbered.behind c.args.count c.args.runs.now.items l.left l.into.items l.runs.items l.runs.capacity h some
+    run c.front-front.result at c.front-front.ensures _ refl in
+    let place = has_place g.T.Numbered.behind c.args.count c.args.runs.now.items l.left l.into.items l.runs.items l.runs.capacity h some
+    run c.front-front.result at c.front-front.ensures _ refl in
     let size = ap (λ b. length b.items) popped in
     let capacity = ap (λ b. b.capacity) popped in
-    let back = with_value c.try_push_front-room.result (c.try_push_front-room.ensures.variant.1 (omega (arith, place, size, capacity))) c.try_push_front-room.ensures.ok in
-    let left = ap (λ b. b.items) back ∙ ap (λ r. r ∷ c.pop_front.new.self.items) c.rest.ensures
-    ∙ ap (λ (xs : List (Run g.row.T.Denot)). rest_of front.count run ∷ xs) (ap (λ b. b.items) popped) in
-    let same = ap (λ b. b.capacity) back ∙ capacity in
-    record {
-      moving = subst (λ n. Moving behind c.args.count start (l.left - front.count) c.try_push-room.new.self.items c.try_push_front-room.new.self.items n) (sym same)
-          (goes_parted behind c.args.count start l.left l.into.items l.runs.items l.runs.capacity h some run front at is_front c.try_push-room.new.self.items pushed
-          c.try_push_front-room.new.self.items c.if-front-run.true left);
-      same = same ∙ l.invariant.same;
-    }
+    record { run = short_run; room = omega (arith, place, size, capacity) }
 
 pub loop-left-smaller : goal.loop-left-smaller
 loop-left-smaller g c =
@@ -73,7 +54,6 @@ pub loop-left-preserved : goal.loop-left-preserved
 loop-left-preserved g c =
     let behind = g.T.Numbered.behind in
     let l = c.loop-left in
-    let run = c.in-Some.run' in
     let front = c.front-front.result in
     let at = sym c.pop_front.ensures.value ∙ c.in-Some.is in
     let popped = c.pop_front.ensures.items in
@@ -81,13 +61,17 @@ loop-left-preserved g c =
     let h = l.invariant.moving in
     let some = c.loop-left-test.true in
     let is_front = c.front-front.ensures in
+    let into = c.try_push-room.new.self.items in
+    let runs = c.put_back.new.runs in
     let pushed = with_value c.try_push-room.result
-    (c.try_push-room.ensures.variant.1 (fits behind c.args.count start l.left l.into.items l.runs.items l.runs.capacity h some run front at is_front _ refl)) c.try_push-room.ensures.ok in
-    let same = ap (λ b. b.capacity) popped in
+    (c.try_push-room.ensures.variant.1 (fits behind c.args.count start l.left l.into.items l.runs.items l.runs.capacity h some c.in-Some.run' front at is_front _ refl))
+    c.try_push-room.ensures.ok in
+    let same = c.put_back.ensures.same ∙ ap (λ b. b.capacity) popped in
     record {
-      moving = subst (λ n. Moving behind c.args.count start (l.left - front.count) c.try_push-room.new.self.items c.pop_front.new.self.items n) (sym same)
-          (goes_whole behind c.args.count start l.left l.into.items l.runs.items l.runs.capacity h some run front at is_front c.try_push-room.new.self.items pushed
-          c.pop_front.new.self.items c.if-front-run.false (ap (λ b. b.items) popped));
+      moving = subst (λ n. Moving behind c.args.count start (l.left - front.count) into runs.items n) (sym same)
+          (goes_on behind c.args.count start l.left l.into.items l.runs.items l.runs.capacity h some c.in-Some.run' front at is_front into pushed runs.items
+          (λ all. ap (λ b. b.items) (c.put_back.ensures.whole all ∙ popped))
+          (λ less. c.put_back.ensures.parted less ∙ ap (λ b. rest_of front.count c.in-Some.run' ∷ b.items) popped));
       same = same ∙ l.invariant.same;
     }
 
