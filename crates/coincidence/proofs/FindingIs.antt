@@ -1,5 +1,5 @@
 -- The masks that are made of what is seen of an answer are its finding.
-use Rattle.std.proofs.Common.{◌≡◌, ℕ, ◌+◌, ◌<◌, ◌^◌, Bool, false, List, Option, Some, None, get_or, not, slice_get, ◌==◌, ◌&&◌, ◌||◌, nat_le, if◌then◌else◌, refl, sym, ◌∙◌, ap, subst, arith}
+use Rattle.std.proofs.Common.{◌≡◌, ℕ, ◌+◌, ◌<◌, ◌^◌, Bool, false, true, List, Option, Some, None, get_or, not, slice_get, ◌==◌, ◌&&◌, ◌||◌, nat_le, if◌then◌else◌, refl, sym, ◌∙◌, ap, subst, arith}
 use Rattle.tick_units.specs.declared.tick.Tick.{Tick}
 use Rattle.site_types.specs.declared.site.Site.{Site}
 use Rattle.site_types.specs.declared.answer.Answer.{Answer}
@@ -25,7 +25,10 @@ use Rattle.coincidence.specs.declared.zone_watch.ZoneWatch.{ZoneWatch}
 use Rattle.coincidence.specs.declared.observation.Observation.{Observation}
 use Rattle.coincidence.specs.declared.partner_finding.PartnerFinding.{PartnerFinding}
 use Rattle.coincidence.specs.declared.decide.Decide.{Decide}
-use Rattle.coincidence.specs.Observations.{own_confirmed, own_released, Observes, partner_is, FindsPartner}
+use Rattle.coincidence.specs.declared.judgement.Judgement.{Judgement}
+use Rattle.coincidence.specs.Observations.{own_confirmed, own_released, Judges, Observes, partner_is, partner_second_of, FindsPartner}
+use Rattle.coincidence_rules.specs.Kept.{second_of}
+use Rattle.coincidence.proofs.Observations.{observes_read}
 use Rattle.coincidence.specs.Stands.{DecidesFor, WatchesZone, Fits}
 use Rattle.coincidence.proofs.Watched.{read_is, Watched, watched, zone_watched}
 use Rattle.coincidence.proofs.Masked.{IsOther, IsSecondBit, bit_of, mask_is}
@@ -132,6 +135,53 @@ module _ {site : Site} {kept : Retained} {panel : ℕ} {done : List Done} {all :
       x) (own_bits released (own_released z.rule seen) found.number found.released ls))
       (miss ∙ ap (λ (o : PointWatch). nat_le missing_askings o.silent) (read_is decide.points.items answer.point r w.watch e w.is_watch) ∙ sym
       (w.watches.silent missing_askings (omega arith)))
+
+-- what counts confirms a plain zone
+counts_plain : (counted manual : Bool) → (counted && (manual || true)) ≡ counted
+counts_plain false manual = refl
+counts_plain true false = refl
+counts_plain true true = refl
+
+-- the finding of an alarm in a zone that each alarm that counts confirms and releases by itself
+pub plain_finding_is : {site : Site} {kept : Retained} {panel : ℕ} {done : List Done} {all : List Answer} {decide : Decide}
+    (stands : DecidesFor site kept panel done all decide) (answer : Answer) (fits : Fits site panel done all answer)
+    (r : PointWatch) (z : ZoneWatch) (e : r ≡ get_or decide.points.items answer.point r) (h : z ≡ get_or decide.zones.items r.zone z)
+    (judgement : Judgement) → Judges site kept done answer judgement → z.rule ≡ Plain → z.partner ≡ None → (told manual : ℕ) (missing : Bool)
+    → told < 2 ^ 32 → manual < 2 ^ 32 → HasBit told z.number judgement.counted → HasBit manual z.number (judgement.counted && r.manual)
+    → missing ≡ nat_le missing_askings r.silent
+    → ◌≡◌ {A = Finding} (record {
+      stamp = answer.stamp;
+      point = answer.point;
+      counted = told;
+      confirmed = told;
+      manual = manual;
+      released = told;
+      missing = missing;
+    }) (finding_among site kept panel done all answer)
+plain_finding_is {site} {kept} {panel} {done} {all} {decide} stands answer fits r z e h judgement judges plain alone told manual missing t m ts ms miss =
+    let w = watched stands answer.point fits.own in
+    let watches = zone_watched stands answer.point fits.own r z e h in
+    let second = second_of site kept done all r.zone w.zone.rule answer in
+    let partner_second = partner_second_of site kept done all z.partner answer in
+    let seen : Observation = record {
+      stamp = answer.stamp;
+      counted = judgement.counted;
+      manual = r.manual;
+      run = r.run;
+      floor = judgement.floor;
+      own_second = second;
+      partner_second = partner_second;
+    } in
+    let found : PartnerFinding = record { number = z.number; confirmed = false; released = false } in
+    let observes = observes_read stands answer fits w.point w.zone w.is_point w.is_zone r z e h judgement second partner_second judges refl refl in
+    let partner : FindsPartner site w.zone w.zone.partner seen found =
+    subst (λ o. FindsPartner site w.zone o seen found) (sym alone ∙ watches.partner) (watches.number, refl, refl) in
+    let confirmed : own_confirmed z.rule seen ≡ judgement.counted = ap (λ y. own_confirmed y seen) plain ∙ counts_plain judgement.counted r.manual in
+    let released : own_released z.rule seen ≡ judgement.counted = ap (λ y. own_released y seen) plain ∙ counts_plain judgement.counted r.manual in
+    let bits : (on : Bool) → on ≡ judgement.counted → HasBits told z.number on z.number false =
+    λ on is k small. ts k small ∙ ap (λ b. if (k + 1) == z.number then judgement.counted else b) (sym (and_false ((k + 1) == z.number) false refl))
+    ∙ ap (λ b. if (k + 1) == z.number then b else (((k + 1) == z.number) && false)) (sym is) in
+    finding_is stands answer fits r z e h seen found observes partner told told manual told missing t t m t ts (bits _ confirmed) ms (bits _ released) miss
 
 -- ---- an answer that doesn't count tells of no zone
 

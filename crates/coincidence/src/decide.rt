@@ -234,6 +234,28 @@ impl Decide {
         requires { CanObserve self.now answer.now }
         ensures { FindsJudged self.now answer.now judgement.now result }
     {
+        let point = &self.points[answer.point as usize];
+        let zone = &self.zones[point.zone as usize];
+        if !zone.is_plain() {
+            return self.coincidence_finding(answer, judgement);
+        }
+        let told = one_bit(zone.number, judgement.counted);
+        Finding {
+            stamp: answer.stamp,
+            point: answer.point,
+            counted: told,
+            confirmed: told,
+            manual: one_bit(zone.number, judgement.counted & point.manual),
+            released: told,
+            missing: point.is_missing(),
+        }
+    }
+
+    // What an alarm means of which this is said and which was the last answer taken, by the answers before it.
+    fn coincidence_finding(&self, answer: &Answer, judgement: &Judgement) -> Finding
+        requires { CanObserve self.now answer.now }
+        ensures { FindsJudged self.now answer.now judgement.now result }
+    {
         let observation = self.observe(answer, judgement);
         let point = &self.points[answer.point as usize];
         let zone = &self.zones[point.zone as usize];

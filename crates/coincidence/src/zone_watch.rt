@@ -1,4 +1,5 @@
-ghost use Rattle.std.specs.Prelude.{◌≡◌, ◌<◌};
+ghost use Rattle.std.specs.Prelude.{◌≡◌, ◌<◌, None, true};
+ghost use Rattle.site_types.specs.declared.rule.Rule.TheVariants.{Plain};
 ghost use Rattle.coincidence.specs.Parts.{zone_begun, zone_noted, zone_switched, zone_tested};
 ghost use Rattle.tick_units.specs.LastTicks.{last_after, last_at};
 ghost use Rattle.coincidence_rules.specs.Kept.{bar};
@@ -49,6 +50,13 @@ impl ZoneWatch {
         if pairs {
             self.recent.note(point, stamp);
         }
+    }
+
+    /// Whether each alarm that counts confirms and releases it by itself, and means nothing for another zone.
+    pub fn is_plain(&self) -> bool
+        ensures { result ≡ true → (self.now.rule ≡ Plain) × (self.now.partner ≡ None) }
+    {
+        matches!(self.rule, Rule::Plain) && self.partner.is_none()
     }
 
     /// After which tick an earlier answer must lie to make a pair with one of this stamp.
