@@ -265,12 +265,25 @@ told_all k f j (Some watch) below past numbered = go (has_bit (told_by f) j) ref
 
 -- ---- what was held stays
 
+pub moved_more : (tick : ℕ) (f : Finding) (before after : Zones)
+    → ((k : ℕ) → slice_get after.watches.items k ≡ option_map (zone_taken f) (slice_get before.watches.items k)) → after.moved ≡ before.moved
+    → Settled tick before → (k : ℕ) (watch : ZoneWatch) → slice_get after.watches.items k ≡ Some watch
+    → (watch.floor.tick.0 ≤ after.moved.0) × (watch.cancelled.tick.0 ≤ after.moved.0)
+moved_more tick f before after taken moved h k watch at = moved_at k watch (slice_get before.watches.items k) refl (sym (taken k) ∙ at)
+  where
+    moved_at : (k : ℕ) (watch : ZoneWatch) (o : Option ZoneWatch) → slice_get before.watches.items k ≡ o → option_map (zone_taken f) o ≡ Some watch
+        → (watch.floor.tick.0 ≤ after.moved.0) × (watch.cancelled.tick.0 ≤ after.moved.0)
+    moved_at k watch None e is = cc
+    moved_at k watch (Some w) e is =
+        subst (λ (v : ZoneWatch). (v.floor.tick.0 ≤ after.moved.0) × (v.cancelled.tick.0 ≤ after.moved.0)) (same_Some (zone_taken f w) watch is)
+        (subst (λ (m : Tick). (w.floor.tick.0 ≤ m.0) × (w.cancelled.tick.0 ≤ m.0)) (sym moved) (h.moved k w e))
+
 pub settled_more : (tick : ℕ) (f : Finding) (before after : Zones) → AreNumbered before.watches.items
     → ((k : ℕ) → slice_get after.watches.items k ≡ option_map (zone_taken f) (slice_get before.watches.items k)) →
     after.changed ≡ bit_or before.changed (told_by f) → after.signs ≡ before.signs → after.moved ≡ before.moved → Settled tick before
     → Settled tick after
 settled_more tick f before after numbered taken changed signs moved h = record {
-  moved = λ k watch at. moved_at k watch (slice_get before.watches.items k) refl (sym (taken k) ∙ at);
+  moved = moved_more tick f before after taken moved h;
   held = λ sign k x small le calm first.
       let off =
       or_left (has_bit before.changed k) (has_bit (told_by f) k)
@@ -283,13 +296,6 @@ settled_more tick f before after numbered taken changed signs moved h = record {
     same : (k : ℕ) → has_bit (told_by f) k ≡ false → (o : Option ZoneWatch) → slice_get before.watches.items k ≡ o → option_map (zone_taken f) o ≡ o
     same k off None e = refl
     same k off (Some watch) e = ap (λ w. Some w) (untold f watch (ap (has_bit (told_by f)) (numbered k watch e) ∙ off))
-
-    moved_at : (k : ℕ) (watch : ZoneWatch) (o : Option ZoneWatch) → slice_get before.watches.items k ≡ o → option_map (zone_taken f) o ≡ Some watch
-        → (watch.floor.tick.0 ≤ after.moved.0) × (watch.cancelled.tick.0 ≤ after.moved.0)
-    moved_at k watch None e is = cc
-    moved_at k watch (Some w) e is =
-        subst (λ (v : ZoneWatch). (v.floor.tick.0 ≤ after.moved.0) × (v.cancelled.tick.0 ≤ after.moved.0)) (same_Some (zone_taken f w) watch is)
-        (subst (λ (m : Tick). (w.floor.tick.0 ≤ m.0) × (w.cancelled.tick.0 ≤ m.0)) (sym moved) (h.moved k w e))
 
 pub later_left : (a b : Tick) → a.0 ≤ (later_tick a b).0
 later_left a b = elim (lt_tells a.0 b.0) [ inl less ↦ (let l = less.1 in rw less.0 (omega (arith, l))) | inr other ↦ rw other.0 (omega arith) ]

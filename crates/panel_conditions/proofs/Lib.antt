@@ -12,6 +12,7 @@ pub mod PointSwitches
 -- what is shown: by zone, as it was drawn, before an operation comes in force, and where nothing changed
 pub mod Masked
 pub mod Drawn
+pub mod AlreadyShown
 pub mod BeforeOperation
 pub mod Unchanged
 -- findings that stand in runs

@@ -1,5 +1,5 @@
 -- What the parts that hold make of a finding or an operation, and what they show at a tick.
-use Rattle.std.specs.Prelude.{ℕ, ◌-◌, Bool, true, false, not, List, Option, Some, None, slice_get, bit_or, ◌==◌, ◌&&◌}
+use Rattle.std.specs.Prelude.{◌≡◌, ◌⊎◌, ℕ, ◌-◌, Bool, true, false, not, List, Option, Some, None, slice_get, bit_or, ◌==◌, ◌&&◌}
 use Rattle.std.specs.Prelude.{nat_lt, nat_le, if◌then◌else◌}
 use Rattle.std.specs.Option.{is_some}
 use Rattle.tick_units.specs.declared.tick.Tick.{Tick}
@@ -19,6 +19,7 @@ use Rattle.panel_conditions.specs.declared.sign.Sign.{Sign}
 use Rattle.panel_conditions.specs.declared.sign.Sign.TheVariants.{Alarm, Manual, Released, First}
 use Rattle.panel_conditions.specs.declared.signs.Signs.{Signs}
 use Rattle.panel_conditions.specs.declared.zone_watch.ZoneWatch.{ZoneWatch}
+use Rattle.panel_conditions.specs.declared.zones.Zones.{Zones}
 use Rattle.panel_conditions.specs.declared.asked.Asked.{Asked}
 use Rattle.panel_conditions.specs.declared.asked.Asked.TheVariants.{Disabled, ZoneDisabled, OfZone}
 use Rattle.panel_conditions.specs.declared.point_switch.PointSwitch.{PointSwitch}
@@ -84,6 +85,18 @@ watch_shows sign tick (Some watch) = zone_shows sign tick watch
 -- the zones of which a finding tells
 abbrev pub told_by : Finding → ℕ
 told_by finding = bit_or (bit_or (bit_or finding.counted finding.confirmed) finding.manual) finding.released
+
+-- a finding tells nothing but what is shown
+pub record IsShown (finding : Finding) (signs : Signs) : Type 0 where
+  pub alarm : bit_or (bit_or finding.counted finding.confirmed) signs.alarm ≡ signs.alarm
+  pub manual : bit_or finding.manual signs.manual ≡ signs.manual
+  pub released : bit_or finding.released signs.released ≡ signs.released
+
+-- the zones of which a finding tells are to be looked at, where it tells anything that isn't shown
+abbrev pub Marks : Finding → Zones → Zones → Type 0
+Marks finding before zones =
+    (zones.changed ≡ bit_or before.changed (told_by finding))
+    ⊎ ((zones.changed ≡ before.changed) × IsShown finding before.signs)
 
 -- the zone at one place takes the finding, each other one stays
 abbrev pub zone_taken_at : ℕ → Finding → ℕ → ZoneWatch → ZoneWatch

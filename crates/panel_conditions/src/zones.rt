@@ -1,5 +1,5 @@
 ghost use Rattle.std.specs.Prelude.{◌≡◌, ◌-◌, ◌^◌, ◌<◌, ◌≤◌, ℕ, map, length, slice_get, bit_or, nat_lt};
-ghost use Rattle.std.specs.Prelude.{if◌then◌else◌, IfOk, option_copied, option_map};
+ghost use Rattle.std.specs.Prelude.{if◌then◌else◌, IfOk, option_copied, option_map, true};
 ghost use Rattle.coincidence_rules.specs.Places.{numbered};
 
 use crate::next_bit::next_bit;
@@ -28,7 +28,7 @@ pub struct Zones {
 
 impl Zones {
     ghost use Rattle.panel_conditions.specs.Parts.{drawn_mask, later_tick, signs_at, told_by, watch_shows, zone_done};
-    ghost use Rattle.panel_conditions.specs.Parts.{zone_taken, zone_taken_at};
+    ghost use Rattle.panel_conditions.specs.Parts.{Marks, zone_taken, zone_taken_at};
     ghost use Rattle.panel_conditions.specs.Stands.{AreNumbered, Settled, first_watch, are_first_watches};
 
     /// The zones of a panel, of which nothing was told.
@@ -54,7 +54,7 @@ impl Zones {
             → slice_get self.new.watches.items k ≡ option_map (zone_taken finding.now)
             (slice_get self.old.watches.items k) }
         ensures count { length self.new.watches.items ≡ length self.old.watches.items }
-        ensures changed { self.new.changed ≡ bit_or self.old.changed (told_by finding.now) }
+        ensures marks { Marks finding.now self.old self.new }
         ensures signs { self.new.signs ≡ self.old.signs }
         ensures moved { self.new.moved ≡ self.old.moved }
     {
@@ -64,7 +64,18 @@ impl Zones {
             self.take_at(k, finding);
             k = next_bit(told, k + 1);
         }
-        self.changed |= told;
+        self.mark(finding);
+    }
+
+    // Marks the zones of which a finding tells, where it tells anything that isn't shown.
+    fn mark(&mut self, finding: &Finding)
+        ensures marks { Marks finding.now self.old self.new }
+        ensures rest { (self.new.watches ≡ self.old.watches) × (self.new.signs ≡ self.old.signs)
+            × (self.new.moved ≡ self.old.moved) }
+    {
+        if !is_shown(finding, &self.signs) {
+            self.changed |= told(finding);
+        }
     }
 
     // Takes note of a finding that tells of the zone at a place.
@@ -184,8 +195,17 @@ impl Zones {
     }
 }
 
-ghost use Rattle.panel_conditions.specs.Parts.{told_by};
+ghost use Rattle.panel_conditions.specs.Parts.{IsShown, told_by};
 ghost use Rattle.panel_conditions.specs.Stands.{first_watch, within_of, within_rule};
+
+// Whether a finding tells nothing but what is shown.
+fn is_shown(finding: &Finding, signs: &Signs) -> bool
+    ensures { result ≡ true → IsShown finding.now signs.now }
+{
+    finding.counted | finding.confirmed | signs.alarm == signs.alarm
+        && finding.manual | signs.manual == signs.manual
+        && finding.released | signs.released == signs.released
+}
 
 /// The zones of which a finding tells.
 pub fn told(finding: &Finding) -> u32

@@ -1,5 +1,5 @@
 use Rattle.panel_conditions.proofs.Watched.{are_numbered, zones_more}
-use Rattle.panel_conditions.proofs.Drawn.{settled_more}
+use Rattle.panel_conditions.proofs.AlreadyShown.{settled_taken}
 use Rattle.panel_conditions.proofs.hold.Hold.take.Goals as goal
 
 pub returns-clause-watches : goal.returns-clause-watches
@@ -14,5 +14,5 @@ returns-clause-watches c site kept panel done taken h = record {
 pub returns-clause-settled : goal.returns-clause-settled
 returns-clause-settled c site kept panel done taken tick h settled =
     let numbered = are_numbered site panel done taken c.args.self.now.zones.watches.items h.zones in
-    settled_more tick c.args.finding.now c.args.self.now.zones c.take.new.self numbered (c.take.ensures.watches numbered) c.take.ensures.changed
-    c.take.ensures.signs c.take.ensures.moved settled
+    settled_taken tick c.args.finding.now c.args.self.now.zones c.take.new.self numbered (c.take.ensures.watches numbered) c.take.ensures.signs
+    c.take.ensures.moved settled c.take.ensures.marks

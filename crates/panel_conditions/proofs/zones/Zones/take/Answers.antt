@@ -37,6 +37,6 @@ loop-k-preserved c =
 
 pub returns-clause-watches : goal.returns-clause-watches
 returns-clause-watches c numbered k =
-    c.loop-k.invariant.watches k
+    ap (λ w. slice_get w.items k) c.mark.ensures.rest.0 ∙ c.loop-k.invariant.watches k
     ∙ told_all c.loop-k.k c.args.finding.now k (slice_get c.args.self.now.watches.items k)
     (subst (λ m. m < 2 ^ 32) c.told-told.ensures c.told-told.type_inv) c.loop-k-test.false (λ watch is. numbered k watch is)
