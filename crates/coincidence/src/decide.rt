@@ -9,7 +9,7 @@ use crate::judgement::Judgement;
 use crate::observation::Observation;
 use crate::partner_finding::PartnerFinding;
 use crate::point_watch::{PointWatch, are_all_at_rest};
-use crate::rules::{after, counts_unless, is_on, may_pair};
+use crate::rules::{after, counts_unless, is_on, may_pair, plain_finding};
 use crate::watches::{watch_points, watch_zones};
 use crate::zone_watch::ZoneWatch;
 use answer_lanes::{Lane, Run};
@@ -380,22 +380,5 @@ impl Decide {
                 }
             }
         }
-    }
-}
-
-ghost use Rattle.coincidence.specs.Resting.{plain_of};
-
-// What an answer means that tells of no zone, of a point that isn't missing.
-fn plain_finding(answer: &Answer) -> Finding
-    ensures { result ≡ plain_of answer.now }
-{
-    Finding {
-        stamp: answer.stamp,
-        point: answer.point,
-        counted: 0,
-        confirmed: 0,
-        manual: 0,
-        released: 0,
-        missing: false,
     }
 }

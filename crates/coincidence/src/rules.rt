@@ -3,7 +3,8 @@ ghost use Rattle.coincidence.specs.Parts.{switch_at};
 ghost use Rattle.coincidence_rules.specs.Kept.{is_type_C, after as after_tick};
 ghost use Rattle.coincidence_rules.specs.Counted.{is_alarm};
 
-use site_types::{Heard, Rule};
+use coincidence_rules::Finding;
+use site_types::{Answer, Heard, Rule};
 use tick_units::{Switch, Tick};
 
 pub fn counts_unless(heard: Heard, off: bool, zone_off: bool, test: bool) -> bool
@@ -45,5 +46,22 @@ pub fn after(tick: Tick, stamp: Option<Tick>) -> Option<Tick>
     match stamp {
         Some(stamp) => if tick.0 < stamp.0 { Some(stamp) } else { None },
         None => None,
+    }
+}
+
+ghost use Rattle.coincidence.specs.Resting.{plain_of};
+
+/// What an answer means that tells of no zone, of a point that isn't missing.
+pub fn plain_finding(answer: &Answer) -> Finding
+    ensures { result ≡ plain_of answer.now }
+{
+    Finding {
+        stamp: answer.stamp,
+        point: answer.point,
+        counted: 0,
+        confirmed: 0,
+        manual: 0,
+        released: 0,
+        missing: false,
     }
 }

@@ -1,5 +1,6 @@
 -- What the parts that hold make of a finding or an operation, and what they show at a tick.
-use Rattle.std.specs.Prelude.{◌≡◌, ◌⊎◌, ℕ, ◌-◌, Bool, true, false, not, List, Option, Some, None, slice_get, bit_or, ◌==◌, ◌&&◌}
+use Rattle.std.specs.Prelude.{◌≡◌, ◌⊎◌, ℕ, ◌-◌, Bool, true, false, not, List, Option, Some, None, slice_get}
+use Rattle.std.specs.Prelude.{bit_or, ◌==◌, ◌&&◌}
 use Rattle.std.specs.Prelude.{nat_lt, nat_le, if◌then◌else◌}
 use Rattle.std.specs.Option.{is_some}
 use Rattle.tick_units.specs.declared.tick.Tick.{Tick}
