@@ -1,5 +1,6 @@
 -- bytes, pieces and lines
 pub mod Cuts
+pub mod Fronts
 pub mod Pieces
 pub mod Refusals
 -- what a text says
