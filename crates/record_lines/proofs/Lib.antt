@@ -7,6 +7,7 @@ pub mod Refusals
 pub mod Rows
 pub mod Verdicts
 pub mod Judging
+pub mod FirstSeats
 pub mod SeatFields
 -- what is printed of a line
 pub mod Printing
