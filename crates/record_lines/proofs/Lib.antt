@@ -1,11 +1,13 @@
 -- bytes, pieces and lines
 pub mod Cuts
+pub mod Fronts
 pub mod Pieces
 pub mod Refusals
 -- what a text says
 pub mod Rows
 pub mod Verdicts
 pub mod Judging
+pub mod FirstSeats
 pub mod SeatFields
 -- what is printed of a line
 pub mod Printing

@@ -4,6 +4,7 @@ ghost use Rattle.std.specs.Prelude.{◌≡◌, ◌≤◌, [], IfNone, IfOk, IfSo
 ghost use Rattle.line_fields.specs.Fields.{each_field};
 ghost use Rattle.record_lines.specs.Forms.{is_seat};
 ghost use Rattle.record_lines.specs.Seats.{is_numbered, order_of, place_of, seat_of, seats_of};
+ghost use Rattle.site_types.specs.Fields.{after_space as behind_space, before_space as front};
 ghost use Rattle.tick_units.specs.Orders.{IsOrder, IsPanelCount};
 
 use crate::why::Why;
@@ -42,13 +43,43 @@ pub fn read_seats(fields: &[u8], count: usize, seats: &mut ArrayVec<Seat, 512>) 
     let mut numbered = true;
     let mut rest = fields;
     for _seat in 0..count {
-        let (field, behind) = split_field(rest);
-        let (seat, has_number) = read_seat(field)?;
+        let (seat, has_number, behind) = first_seat(rest)?;
         seats.push(seat);
         numbered = numbered && has_number;
         rest = behind;
     }
     Some(numbered)
+}
+
+// The seat of the first field, if it is of a seat's form, whether it has a number of the record's form, and
+// what follows the field. A letter and a digit, or `k`, is what a site's own orders have.
+fn first_seat(text: &[u8]) -> Option<(Seat, bool, &[u8])>
+    ensures formed { IfSome result (λ read. is_seat (front text.now) ≡ true) }
+    ensures seat { IfSome result (λ read. read.0 ≡ seat_of (front text.now)) }
+    ensures numbered { IfSome result (λ read. read.1 ≡ is_numbered (front text.now)) }
+    ensures behind { IfSome result (λ read. read.2.now ≡ behind_space text.now) }
+    ensures none { IfNone result (is_seat (front text.now) ≡ false) }
+{
+    match text {
+        [letter, digit, b' ', behind @ ..] if digit.is_ascii_digit() => {
+            let task = task(*letter)?;
+            let panel = *digit - b'0';
+            Some((Seat { panel, task }, true, behind))
+        }
+        [b'k', b' ', behind @ ..] => Some((
+            Seat {
+                panel: 0,
+                task: Task::Keep,
+            },
+            true,
+            behind,
+        )),
+        _ => {
+            let (field, behind) = split_field(text);
+            let (seat, has_number) = read_seat(field)?;
+            Some((seat, has_number, behind))
+        }
+    }
 }
 
 // The seat of a field, if it is of a seat's form, and whether it has a number of the record's form. A number
