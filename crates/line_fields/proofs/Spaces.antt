@@ -3,6 +3,7 @@ use Rattle.std.proofs.Common.{◌≡◌, ◌<◌, ◌≤◌, ◌+◌, ◌-◌, �
 use Rattle.std.proofs.Common.{◌∷◌, refl, sym, ap, length, get_or, take, drop, arith}
 use Rattle.std.specs.Prelude.{◌==◌, if◌then◌else◌}
 use Rattle.std.proofs.lemmas.Bool.{eq-eqb, eqb-true, ne_eqb}
+use Rattle.std.proofs.lemmas.List.{drop_more}
 use Rattle.line_fields.specs.Fields.{each_field, space_count}
 use Rattle.line_fields.proofs.Joined.{count_front}
 use Rattle.site_types.specs.Fields.{after_space, before_space, field}
@@ -137,3 +138,16 @@ two_fields (byte ∷ rest) one = by (byte == 32) (sym (count_front byte rest) �
         → before_space (if b then rest else after_space rest) ≡ (if b then rest else after_space rest)
     by true one ih = one_field rest (omega (arith, one))
     by false one ih = ih (omega (arith, one))
+
+-- ---- counting
+
+-- one byte more is counted
+pub counted_more : (text : List ℕ) (place so_far one whole : ℕ) → place < length text → one ≡ cond (get_or text place 0 == 32) 1 0
+    → so_far + space_count (drop place text) ≡ whole → (so_far + one) + space_count (drop (place + 1) text) ≡ whole
+counted_more text place so_far one whole within is counted =
+    let cut = ap space_count (drop_more text place 0 within) ∙ count_front (get_or text place 0) (drop (place + 1) text) in
+    omega (arith, cut, is, counted)
+
+pub counted_behind : (so_far whole : ℕ) (rest behind : List ℕ) → rest ≡ behind → so_far + space_count behind ≡ whole
+    → so_far + space_count rest ≡ whole
+counted_behind so_far whole rest behind is counted = let same = ap space_count is in omega (arith, same, counted)

@@ -22,8 +22,22 @@ use line_fields::{is_word, space_count, split_field};
 use site_types::{Site, read_number};
 use tick_units::{LAST_TICK, Seat, Tick};
 
-/// The line that a text of printable bytes is where a record stands so.
+/// The line that a text of printable bytes is where a record stands so. A record is mostly ticks, which are
+/// told without a search for their space.
 pub fn judge(site: &Site, so_far: &TicksSoFar, text: &[u8]) -> Result<Line, Why>
+    requires valid { IsValid site.now }
+    requires short { length text.now ≤ 512 }
+    ensures answer { IsVerdict (judged site.now so_far.now text.now) result }
+    ensures may_come { IfOk result (λ line. MayCome site.now so_far.now line) }
+{
+    match text {
+        [b't', b'i', b'c', b'k', b' ', fields @ ..] => judge_tick(so_far, text, fields),
+        _ => judge_by_word(site, so_far, text),
+    }
+}
+
+// The same by the first word.
+fn judge_by_word(site: &Site, so_far: &TicksSoFar, text: &[u8]) -> Result<Line, Why>
     requires valid { IsValid site.now }
     requires short { length text.now ≤ 512 }
     ensures answer { IsVerdict (judged site.now so_far.now text.now) result }
