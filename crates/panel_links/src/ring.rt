@@ -3,12 +3,13 @@ ghost use Rattle.std.specs.Prelude.{if◌then◌else◌};
 ghost use Rattle.site_types.specs.Bits.{mask_of};
 ghost use Rattle.panel_links.specs.Words.{Call, Linked, Took, IsHeard, IsNewest, OwnStampsRise};
 ghost use Rattle.site_types.specs.Words.{empty_word};
-ghost use Rattle.panel_links.specs.Words.{left_of, right_of};
+ghost use Rattle.panel_links.specs.Words.{group_of, left_of, right_of};
 ghost use Rattle.panel_links.specs.Kept.{kept_word, newest};
 ghost use Rattle.panel_links.specs.Frames.{after_frame, frame_of};
 
 use crate::frame::Frame;
 use site_types::{Word, mask_from_8};
+use std::cmp;
 use tick_units::Tick;
 
 /// What each panel of a ring keeps of each other one, and which links are up.
@@ -126,11 +127,7 @@ impl Ring {
         requires { HasPanel self.now from }
         ensures { result ≡ frame_of self.now.panels (kept_in self.now from) from now.0 }
     {
-        let group = if self.panels <= 4 || now.0 % 2 == 1 {
-            0
-        } else {
-            1
-        };
+        let group = self.group(now);
         let first = 4 * group + 1;
         Frame {
             from,
@@ -185,9 +182,36 @@ impl Ring {
         ensures links { self.new.up ≡ self.old.up }
     {
         if self.up[link as usize - 1] {
-            let frame = self.frame(from, now);
-            self.receive(at, &frame);
+            let first = 4 * self.group(now) + 1;
+            let last = cmp::min(first + 3, self.panels);
+            for of in first..last + 1 {
+                self.pass(from, at, of);
+            }
         }
+    }
+
+    // The group of panels whose words a tick carries.
+    fn group(&self, now: Tick) -> u8
+        ensures { result ≡ group_of self.now.panels now.0 }
+    {
+        if self.panels <= 4 || now.0 % 2 == 1 {
+            0
+        } else {
+            1
+        }
+    }
+
+    // Takes over a word that another panel keeps if it is newer.
+    fn pass(&mut self, neighbour: u8, at: u8, of: u8)
+        requires neighbour { HasPanel self.old neighbour }
+        requires at { HasPanel self.old at }
+        requires of { HasPanel self.old of }
+        ensures words { KeepsNewest self.old at of (kept_in self.old neighbour of) self.new }
+        ensures panels { self.new.panels ≡ self.old.panels }
+        ensures links { self.new.up ≡ self.old.up }
+    {
+        let word = self.word(neighbour, of);
+        self.take(at, of, word);
     }
 
     // Keeps a word of a panel if it is newer.
