@@ -8,7 +8,7 @@ ghost use Rattle.panel_links.specs.Kept.{kept_word, newest};
 ghost use Rattle.panel_links.specs.Frames.{after_frame, frame_of};
 
 use crate::frame::Frame;
-use site_types::{Word, mask_from_8};
+use site_types::{Word, mask_from_8, with_bit_8};
 use std::cmp;
 use tick_units::Tick;
 
@@ -100,6 +100,9 @@ impl Ring {
             → result ≡ mask_of 8 (λ k. is_down_at panels panel calls (k + 1)) }
     {
         let left = self.left_of(panel);
+        if self.up[panel as usize - 1] && self.up[left as usize - 1] {
+            return 0;
+        }
         let mut down = [false; 8];
         for link in 1..9 {
             let own = self.panels > 1 && (link == panel || link == left);
@@ -114,12 +117,14 @@ impl Ring {
         ensures { (panels : ℕ) (calls : List Call) → StandsFor panels calls self.now
             → result ≡ mask_of 8 (λ k. is_silent panels panel calls now.0 limit (k + 1)) }
     {
-        let mut silent = [false; 8];
+        let mut silent = 0;
         for of in 1..self.panels + 1 {
             let heard = self.heard(panel, of);
-            silent[of as usize - 1] = now.0.saturating_sub(heard.0) > limit;
+            if now.0.saturating_sub(heard.0) > limit {
+                silent = with_bit_8(silent, of - 1, true);
+            }
         }
-        mask_from_8(&silent)
+        silent
     }
 
     /// What a panel sends over its links in a tick.
