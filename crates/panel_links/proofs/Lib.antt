@@ -3,3 +3,5 @@ pub mod Places
 -- a turn, and that turn by turn the newest word over all chains is kept
 pub mod Turns
 pub mod Chains
+-- links that are down
+pub mod Downs

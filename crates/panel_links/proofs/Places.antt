@@ -1,13 +1,12 @@
 -- Words read and written one by one, and four at a time.
-use Rattle.std.proofs.Common.{◌≡◌, ℕ, ◌+◌, ◌-◌, ◌*◌, ◌/◌, ◌%◌, ◌≤◌, ◌==◌, ◌&&◌, List, [], length, Bool, true, false}
+use Rattle.std.proofs.Common.{◌≡◌, ℕ, ◌+◌, ◌-◌, ◌*◌, ◌/◌, ◌%◌, ◌≤◌, ◌==◌, ◌&&◌, List, [], length, true, false}
 use Rattle.std.proofs.Common.{nat_le, slice_index_or, slice_set, if◌then◌else◌, refl, sym, ◌∙◌, ap, arith, inl, inr}
-use Rattle.std.proofs.lemmas.Bool.{and_left, and_right, cases_Bool, cases_eq, eq-eqb, eqb-true, le-leb, ne_eqb}
+use Rattle.std.proofs.lemmas.Bool.{and_left, and_right, cases_eq, eq-eqb, le-leb, ne_eqb}
 use Rattle.std.proofs.lemmas.Grind.{get_or-set_at}
 use Rattle.std.proofs.lemmas.List.{get_or-set_other}
 use Rattle.site_types.specs.declared.word.Word.{Word}
-use Rattle.panel_links.specs.Words.{carries, group_of}
 use Rattle.site_types.specs.Words.{empty_word}
-use Rattle.panel_links.specs.Kept.{after_word, newest}
+use Rattle.panel_links.specs.Kept.{newest}
 use Rattle.panel_links.specs.Frames.{after_frame, group_words, word_in}
 
 -- a table of words after one was written
@@ -132,26 +131,3 @@ sent_word panels group o words first within in_group =
         ]
       ]
     ]
-
--- what a frame of a neighbour makes, over a link that is up
-pub over_link : (panels tick receiver a o : ℕ) (up : Bool) (kept : Word) (words : ℕ → Word) → up ≡ true → 1 ≤ o → o ≤ panels
-    → after_frame receiver (group_of panels tick) (group_words panels (group_of panels tick) words) a o kept
-    ≡ after_word ((a == receiver) && (up && carries panels tick o)) kept (words o)
-over_link panels tick receiver a o up kept words u first within =
-    rw u
-    (elim (cases_Bool (carries panels tick o)) [
-      | inl carried ↦ (let in_group : (o - 1) / 4 ≡ group_of panels tick = eqb-true ((o - 1) / 4) (group_of panels tick) carried in
-          ap (λ w. if (a == receiver) && carries panels tick o then newest kept w else kept)
-          (sent_word panels (group_of panels tick) o words first within in_group))
-      | inr not_carried ↦
-          ap (λ b. if b then newest kept (slice_index_or (group_words panels (group_of panels tick) words) ((o - 1) % 4) empty_word) else kept)
-          (and_right (a == receiver) (carries panels tick o) not_carried)
-          ∙ ap (λ b. if b then newest kept (words o) else kept) (sym (and_right (a == receiver) (carries panels tick o) not_carried))
-    ])
-
-group_case : (b : Bool) (tick : ℕ) → (if b then 0 else (tick + 1) % 2) ≤ 1
-group_case true tick = omega arith
-group_case false tick = omega arith
-
-pub group_small : (panels tick : ℕ) → group_of panels tick ≤ 1
-group_small panels tick = group_case (nat_le panels 4) tick

@@ -3,12 +3,13 @@ ghost use Rattle.std.specs.Prelude.{if◌then◌else◌};
 ghost use Rattle.site_types.specs.Bits.{mask_of};
 ghost use Rattle.panel_links.specs.Words.{Call, Linked, Took, IsHeard, IsNewest, OwnStampsRise};
 ghost use Rattle.site_types.specs.Words.{empty_word};
-ghost use Rattle.panel_links.specs.Words.{left_of, right_of};
+ghost use Rattle.panel_links.specs.Words.{group_of, left_of, right_of};
 ghost use Rattle.panel_links.specs.Kept.{kept_word, newest};
 ghost use Rattle.panel_links.specs.Frames.{after_frame, frame_of};
 
 use crate::frame::Frame;
-use site_types::{Word, mask_from_8};
+use site_types::{Word, mask_from_8, with_bit_8};
+use std::cmp;
 use tick_units::Tick;
 
 /// What each panel of a ring keeps of each other one, and which links are up.
@@ -99,6 +100,9 @@ impl Ring {
             → result ≡ mask_of 8 (λ k. is_down_at panels panel calls (k + 1)) }
     {
         let left = self.left_of(panel);
+        if self.up[panel as usize - 1] && self.up[left as usize - 1] {
+            return 0;
+        }
         let mut down = [false; 8];
         for link in 1..9 {
             let own = self.panels > 1 && (link == panel || link == left);
@@ -113,12 +117,14 @@ impl Ring {
         ensures { (panels : ℕ) (calls : List Call) → StandsFor panels calls self.now
             → result ≡ mask_of 8 (λ k. is_silent panels panel calls now.0 limit (k + 1)) }
     {
-        let mut silent = [false; 8];
+        let mut silent = 0;
         for of in 1..self.panels + 1 {
             let heard = self.heard(panel, of);
-            silent[of as usize - 1] = now.0.saturating_sub(heard.0) > limit;
+            if now.0.saturating_sub(heard.0) > limit {
+                silent = with_bit_8(silent, of - 1, true);
+            }
         }
-        mask_from_8(&silent)
+        silent
     }
 
     /// What a panel sends over its links in a tick.
@@ -126,11 +132,7 @@ impl Ring {
         requires { HasPanel self.now from }
         ensures { result ≡ frame_of self.now.panels (kept_in self.now from) from now.0 }
     {
-        let group = if self.panels <= 4 || now.0 % 2 == 1 {
-            0
-        } else {
-            1
-        };
+        let group = self.group(now);
         let first = 4 * group + 1;
         Frame {
             from,
@@ -185,9 +187,36 @@ impl Ring {
         ensures links { self.new.up ≡ self.old.up }
     {
         if self.up[link as usize - 1] {
-            let frame = self.frame(from, now);
-            self.receive(at, &frame);
+            let first = 4 * self.group(now) + 1;
+            let last = cmp::min(first + 3, self.panels);
+            for of in first..last + 1 {
+                self.pass(from, at, of);
+            }
         }
+    }
+
+    // The group of panels whose words a tick carries.
+    fn group(&self, now: Tick) -> u8
+        ensures { result ≡ group_of self.now.panels now.0 }
+    {
+        if self.panels <= 4 || now.0 % 2 == 1 {
+            0
+        } else {
+            1
+        }
+    }
+
+    // Takes over a word that another panel keeps if it is newer.
+    fn pass(&mut self, neighbour: u8, at: u8, of: u8)
+        requires neighbour { HasPanel self.old neighbour }
+        requires at { HasPanel self.old at }
+        requires of { HasPanel self.old of }
+        ensures words { KeepsNewest self.old at of (kept_in self.old neighbour of) self.new }
+        ensures panels { self.new.panels ≡ self.old.panels }
+        ensures links { self.new.up ≡ self.old.up }
+    {
+        let word = self.word(neighbour, of);
+        self.take(at, of, word);
     }
 
     // Keeps a word of a panel if it is newer.

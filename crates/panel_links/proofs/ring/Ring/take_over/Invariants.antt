@@ -1,0 +1,13 @@
+use Rattle.std.proofs.Common.{◌≡◌, ◌==◌, ◌&&◌, ℕ, nat_le, nat_lt}
+use Rattle.panel_links.specs.Kept.{after_word}
+use Rattle.panel_links.specs.Stands.{HasPanel, kept_in}
+use Rattle.panel_links.proofs.ring.Ring.take_over.Given as goal
+
+-- the words of the group up to a panel were taken
+abbrev pub invariant-loop-of : goal.invariant-loop-of
+invariant-loop-of l = record {
+  panels : l.self.panels ≡ l.fn.self.panels;
+  links : l.self.up ≡ l.fn.self.up;
+  words : (a o : ℕ) → HasPanel l.fn.self a → HasPanel l.fn.self o → kept_in l.self a o
+      ≡ after_word ((a == l.at) && (nat_le l.first o && nat_lt o l.of)) (kept_in l.fn.self a o) (kept_in l.fn.self l.from o);
+}
