@@ -9,5 +9,6 @@ pub mod Lines
 pub mod Lanes
 -- groups of points that are quiet, on a cable with nothing wrong
 pub mod Sound
-pub mod Quiet
-pub mod QuietAnswers
+pub mod FollowingPoints
+pub mod StateRuns
+pub mod GroupAnswers

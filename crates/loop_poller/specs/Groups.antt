@@ -1,13 +1,14 @@
 -- Points of a loop whose places in the site follow one another.
-use Rattle.std.specs.Prelude.{◌≡◌, ◌+◌, ◌-◌, ◌*◌, ◌<◌, ℕ, Bool, true, false, List, Option, Some, None}
-use Rattle.std.specs.Prelude.{slice_get, slice_index_or}
+use Rattle.std.specs.Prelude.{◌≡◌, ◌≤◌, ◌+◌, ◌-◌, ◌*◌, ℕ, Bool, true, false, List, Option, Some, None}
+use Rattle.std.specs.Prelude.{drop, length, map, slice_get, slice_index_or, take}
 use Rattle.std.specs.List.{filter_map, range_with_len}
 use Rattle.site_types.specs.declared.answer.Answer.{Answer}
-use Rattle.site_types.specs.declared.heard.Heard.TheVariants.{Quiet as HeardQuiet}
 use Rattle.site_types.specs.declared.point_state.PointState.{PointState}
 use Rattle.site_types.specs.declared.point_state.PointState.TheVariants.{Quiet, Alarm, Gone}
-use Rattle.answer_lanes.specs.declared.run.Run.{Run}
+use Rattle.answer_lanes.specs.Points.{answer_behind}
+use Rattle.answer_lanes.specs.Runs.{item_at}
 use Rattle.loop_poller.specs.declared.group.Group.{Group}
+use Rattle.loop_poller.specs.Asked.{heard_of}
 
 -- the points at eight addresses from this one on, in order of address
 abbrev pub points_of_eight : List (Option ℕ) → ℕ → List ℕ
@@ -28,14 +29,21 @@ is_quiet_state Quiet = true
 is_quiet_state Alarm = false
 is_quiet_state Gone = false
 
--- the points of a group are quiet
-abbrev pub AreQuiet : List PointState → Group → Type 0
-AreQuiet states group = (k : ℕ) → k < group.count → slice_get states (group.first + k) ≡ Some Quiet
+-- what a point tells in a tick that lies so many places behind the first one of its group, is in this state, and is
+-- reached
+abbrev pub place_answer : ℕ → ℕ → PointState → ℕ → Answer
+place_answer tick first state place =
+    item_at answer_behind (record { stamp = record { 0 = tick }; point = first; heard = heard_of state true }) place
 
--- what they answer in a tick, all of them being quiet and reached
-abbrev pub quiet_answers : Group → ℕ → Run Answer
-quiet_answers group tick = record {
-  first = record { stamp = record { 0 = tick }; point = group.first; heard = HeardQuiet };
-  taken = 0;
-  count = group.count;
-}
+-- what points tell in a tick that follow one another from this one on, are in these states, and are reached
+abbrev pub state_answers : ℕ → ℕ → List PointState → List Answer
+state_answers tick first states =
+    map (λ place. place_answer tick first (slice_index_or states place Quiet) place) (range_with_len 0 (length states))
+
+-- the points of a group are among these states
+abbrev pub IsWithin : Group → List PointState → Type 0
+IsWithin group states = 1 ≤ group.count → group.first + group.count ≤ length states
+
+-- what the points of a group tell, if all points of the site are in these states
+abbrev pub group_answers : ℕ → Group → List PointState → List Answer
+group_answers tick group states = state_answers tick group.first (take group.count (drop group.first states))

@@ -13,7 +13,7 @@ use Rattle.loop_poller.specs.declared.poller.Poller.{Poller}
 use Rattle.site_types.specs.Things.{loop_of}
 use Rattle.loop_poller.specs.Asked.{status_on}
 use Rattle.loop_poller.specs.Cables.{CableStands}
-use Rattle.loop_poller.specs.Groups.{AreGroups, AreQuiet}
+use Rattle.loop_poller.specs.Groups.{AreGroups}
 use Rattle.loop_poller.specs.Points.{ArePoints}
 use Rattle.loop_poller.specs.Calls.{Call, told_cable, told_point}
 
@@ -30,10 +30,9 @@ pub record IsSoundLine (polled : PolledLine) : Type 0 where
   pub unshorted : (site : Site) (panel line : ℕ) (cable : Cable) → LineStands site panel line cable polled
       → (status_on (loop_of site panel line) cable).shorted ≡ false
 
--- a group of a loop begins at this address, its points are quiet, and nothing is wrong with the cable
-pub record IsQuietGroup (polled : PolledLine) (states : List PointState) (first : ℕ) (group : Group) : Type 0 where
+-- a group of a loop begins at this address, and nothing is wrong with the cable
+pub record IsSoundGroup (polled : PolledLine) (first : ℕ) (group : Group) : Type 0 where
   pub is : slice_get polled.groups.items ((first - 1) / 8) ≡ Some (Some group)
-  pub quiet : AreQuiet states group
   pub sound : IsSoundLine polled
 
 -- the states of the site's points

@@ -1,7 +1,7 @@
-ghost use Rattle.std.specs.Prelude.{◌≡◌, ◌≤◌, true};
+ghost use Rattle.std.specs.Prelude.{◌≡◌, ◌≤◌, ◌+◌, ℕ, length};
+ghost use Rattle.tick_units.specs.Lane.{HasRoom, with_put};
 
-use answer_lanes::Run;
-use site_types::PointState::Quiet;
+use answer_lanes::{Lane, Run};
 use site_types::{Answer, Heard, PointState};
 use tick_units::Tick;
 
@@ -15,43 +15,73 @@ pub struct Group {
 }
 
 impl Group {
-    ghost use Rattle.std.specs.List.{list_all};
-    ghost use Rattle.loop_poller.specs.Groups.{AreQuiet, is_quiet_state, quiet_answers};
+    ghost use Rattle.loop_poller.specs.Groups.{IsWithin, group_answers, state_answers};
 
-    fn are_quiet(states: &[PointState]) -> bool
-        ensures { result ≡ list_all is_quiet_state states.now }
-    {
-        match states {
-            // A whole group is tested without a loop.
-            [Quiet, Quiet, Quiet, Quiet, Quiet, Quiet, Quiet, Quiet] => true,
-            _ => states.iter().all(|state| matches!(state, Quiet)),
-        }
-    }
-
-    /// Whether its points are all quiet.
-    pub fn is_quiet(&self, states: &[PointState]) -> bool
-        ensures { result ≡ true → AreQuiet states.now self.now }
+    /// Puts the answers of its points, all of which are reached, where the states of the site's points are these.
+    pub fn put_answers(&self, states: &[PointState], now: Tick, answers: &mut Lane<Answer>)
+        requires { HasRoom answers.old 8 }
+        ensures room { (n : ℕ) → HasRoom answers.old (n + 8) → HasRoom answers.new n }
+        ensures put { IsWithin self.now states.now
+            → answers.new ≡ with_put answers.old (group_answers now.0 self.now states.now) }
     {
         let first = self.first as usize;
-        match states.get(first..first + self.count as usize) {
-            Some(states) => Group::are_quiet(states),
-            None => false,
+        let end = first + self.count as usize;
+        if end <= states.len() {
+            self.put_runs(&states[first..end], now, answers);
         }
     }
 
-    /// The answers of its points, where all of them are quiet and reached.
-    pub fn quiet_answers(&self, now: Tick) -> Run<Answer>
-        ensures run { result ≡ quiet_answers self.now now.0 }
-        ensures few { result.count ≤ 8 }
+    // Puts the answers of points in these states, in runs of those in the same one.
+    fn put_runs(&self, states: &[PointState], now: Tick, answers: &mut Lane<Answer>)
+        requires count { length states.now ≤ 8 }
+        requires room { HasRoom answers.old 8 }
+        ensures { answers.new ≡ with_put answers.old (state_answers now.0 self.now.first states.now) }
     {
-        Run {
-            first: Answer {
-                stamp: now,
-                point: self.first,
-                heard: Heard::Quiet,
-            },
-            taken: 0,
-            count: self.count,
+        let mut place = 0;
+        let mut rest = states;
+        while let [state, behind @ ..] = rest {
+            let count = 1 + same_count(behind, *state);
+            answers.put_run(Run {
+                first: Answer {
+                    stamp: now,
+                    point: self.first,
+                    heard: heard_from(*state),
+                },
+                taken: place,
+                count,
+            });
+            place += count;
+            rest = &rest[count as usize..];
         }
     }
+}
+
+ghost use Rattle.std.specs.Prelude.{◌<◌, Some, slice_get, true};
+ghost use Rattle.loop_poller.specs.Asked.{heard_of};
+
+// What is heard of a point in a state that is reached.
+fn heard_from(state: PointState) -> Heard
+    ensures { result ≡ heard_of state true }
+{
+    match state {
+        PointState::Quiet => Heard::Quiet,
+        PointState::Alarm => Heard::Alarm,
+        PointState::Gone => Heard::Silent,
+    }
+}
+
+// How many states at the front are this one.
+fn same_count(states: &[PointState], state: PointState) -> u8
+    requires { length states.now ≤ 8 }
+    ensures within { result ≤ length states.now }
+    ensures same { (k : ℕ) → k < result → slice_get states.now k ≡ Some state }
+{
+    let mut count = 0;
+    for other in states {
+        if *other != state {
+            return count;
+        }
+        count += 1;
+    }
+    count
 }

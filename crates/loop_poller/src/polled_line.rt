@@ -28,7 +28,7 @@ pub struct PolledLine {
 
 impl PolledLine {
     ghost use Rattle.loop_poller.specs.Puts.{PutsGroup};
-    ghost use Rattle.loop_poller.specs.Stands.{IsOnLoop, IsQuietGroup, IsSoundLine, LineStands};
+    ghost use Rattle.loop_poller.specs.Stands.{IsOnLoop, IsSoundGroup, IsSoundLine, LineStands};
 
     pub fn new(alloc: Global, site: &Site, panel: u8, line: u8) -> Result<PolledLine, AllocError>
         requires { IsValid site.now }
@@ -97,13 +97,13 @@ impl PolledLine {
         !status.broken && !status.shorted
     }
 
-    // The group that begins at an address, where its points are quiet and all reached.
-    fn quiet_group(&self, states: &[PointState], first: u8) -> Option<Group>
+    // The group that begins at an address, where all its points are reached.
+    fn sound_group(&self, first: u8) -> Option<Group>
         requires { 1 ≤ first }
-        ensures { IfSome result (λ group. IsQuietGroup self.now states.now first group) }
+        ensures { IfSome result (λ group. IsSoundGroup self.now first group) }
     {
         match self.groups.get((first as usize - 1) / 8) {
-            Some(Some(group)) if self.is_sound() && group.is_quiet(states) => Some(*group),
+            Some(Some(group)) if self.is_sound() => Some(*group),
             _ => None,
         }
     }
@@ -120,8 +120,8 @@ impl PolledLine {
         if self.cable.is_none() {
             return;
         }
-        if let Some(group) = self.quiet_group(states, first) {
-            answers.put_run(group.quiet_answers(now));
+        if let Some(group) = self.sound_group(first) {
+            group.put_answers(states, now, answers);
             return;
         }
         for address in first..first + 8 {

@@ -1,6 +1,6 @@
 use Rattle.std.proofs.Common.{ℕ, Option, ◌≡◌, ◌+◌, ◌-◌, ap, ◌∙◌, sym, arith, Some, None, slice_index_or, subst}
 use Rattle.std.specs.List.{filter_map, range_with_len}
-use Rattle.loop_poller.proofs.Quiet.{found_first, found_gone, found_next}
+use Rattle.loop_poller.proofs.FollowingPoints.{found_first, found_gone, found_next}
 use Rattle.loop_poller.proofs.groups.group_from.Goals as goal
 use Rattle.loop_poller.proofs.groups.group_from.Goals.{in-Some, then-count-eq0, else-count-eq0+else-point-begin, in_default}
 

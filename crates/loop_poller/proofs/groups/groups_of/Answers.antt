@@ -1,6 +1,6 @@
 use Rattle.std.proofs.Common.{◌∙◌, arith}
 use Rattle.std.proofs.lemmas.List.{length-set}
-use Rattle.loop_poller.proofs.Quiet.{groups_more}
+use Rattle.loop_poller.proofs.FollowingPoints.{groups_more}
 use Rattle.loop_poller.proofs.groups.groups_of.Goals as goal
 
 pub loop-number-preserved : goal.loop-number-preserved

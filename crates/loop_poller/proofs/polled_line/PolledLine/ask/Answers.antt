@@ -2,17 +2,14 @@ use Rattle.std.proofs.Common.{◌≡◌, ◌∙◌, ap, sym, ◌+◌, ◌-◌, �
 use Rattle.std.specs.List.{filter_map, range_with_len}
 use Rattle.tick_units.specs.Lane.{with_put}
 use Rattle.site_types.specs.Profile.{round_of}
-use Rattle.answer_lanes.specs.Points.{answer_behind}
-use Rattle.answer_lanes.specs.Runs.{items_of}
-use Rattle.answer_lanes.proofs.Moving.{length_run}
 use Rattle.loop_poller.specs.Asked.{answer_from, answer_of, heard_of, is_reached_on, point_at}
-use Rattle.loop_poller.specs.Stands.{IsQuietGroup}
+use Rattle.loop_poller.specs.Stands.{IsSoundGroup}
 use Rattle.site_types.specs.Things.{loop_of}
 use Rattle.loop_poller.proofs.Filling.{read_at}
 use Rattle.loop_poller.proofs.Lanes.{got_more, got_same, put-nil, put_some, put_none}
 use Rattle.loop_poller.proofs.Lines.{nothing_asked, on_loop, point_there}
-use Rattle.loop_poller.proofs.Quiet.{if_some}
-use Rattle.loop_poller.proofs.QuietAnswers.{quiet_asked, room_behind}
+use Rattle.loop_poller.proofs.FollowingPoints.{if_some}
+use Rattle.loop_poller.proofs.GroupAnswers.{group_asked, group_within}
 use Rattle.loop_poller.proofs.Windows.{asked_window, group_of, is_asked_here, range-more}
 use Rattle.loop_poller.proofs.polled_line.PolledLine.ask.Goals as goal
 use Rattle.loop_poller.proofs.polled_line.PolledLine.ask.Goals.{in-Some-index, in_default-index}
@@ -29,18 +26,15 @@ returns-then-is_none-clause-put c site panel line points cables valid stands sta
     ∙ put-nil c.args.answers.now)
 
 pub returns-in-Some-clause-room : goal.returns-in-Some-clause-room
-returns-in-Some-clause-room c n room =
-    let run = c.quiet_answers.result in
-    room_behind c.args.answers.now c.put_run.new.self (items_of answer_behind run) 8 c.put_run.ensures
-    (let size = length_run answer_behind run in let few = c.quiet_answers.ensures.few in omega (arith, size, few)) n room
+returns-in-Some-clause-room c n room = c.put_answers.ensures.room n room
 
 pub returns-in-Some-clause-put : goal.returns-in-Some-clause-put
 returns-in-Some-clause-put c site panel line points cables valid stands states from =
     let group = c.in-Some.group in
-    let quiet = if_some (IsQuietGroup c.args.self.now c.args.states.now c.args.first) c.quiet_group.result group c.quiet_group.ensures c.in-Some.is in
-    c.put_run.ensures ∙ ap (λ run. with_put c.args.answers.now (items_of answer_behind run)) c.quiet_answers.ensures.run
-    ∙ ap (with_put c.args.answers.now) (sym (quiet_asked site panel line points cables c.args.now.0 c.args.self.now c.args.states.now c.args.first group
-    valid stands states from quiet))
+    let sound = if_some (IsSoundGroup c.args.self.now c.args.first) c.sound_group.result group c.sound_group.ensures c.in-Some.is in
+    c.put_answers.ensures.put (group_within site panel line points cables c.args.now.0 c.args.self.now c.args.states.now c.args.first group valid stands states from sound)
+    ∙ ap (with_put c.args.answers.now) (sym (group_asked site panel line points cables c.args.now.0 c.args.self.now c.args.states.now c.args.first group
+    valid stands states from sound))
 
 pub loop-address-preserved : goal.loop-address-preserved
 loop-address-preserved c =

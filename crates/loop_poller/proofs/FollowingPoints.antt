@@ -1,36 +1,16 @@
--- Groups of points that are quiet, and what they answer.
-use Rattle.std.proofs.Common.{IfSome, slice_set, append-nil, ◌≡◌, ℕ, ◌+◌, ◌-◌, ◌*◌, ◌<◌, ◌≤◌, List, [], ◌∷◌, ◌++◌, length, take, drop, get_or, Option, Some}
-use Rattle.std.proofs.Common.{None, true, slice_get, refl, sym, ◌∙◌, ap, subst, arith, inl, inr}
+-- Groups of points that follow one another in the site.
+use Rattle.std.proofs.Common.{IfSome, slice_set, append-nil, ◌≡◌, ℕ, ◌+◌, ◌*◌, ◌<◌, List, [], ◌∷◌, ◌++◌, length, Option, Some}
+use Rattle.std.proofs.Common.{None, sym, ◌∙◌, ap, subst, arith, inl, inr}
 use Rattle.std.proofs.lemmas.Bool.{cases_eq}
 use Rattle.std.proofs.lemmas.List.Elements.{filter_map-append}
 use Rattle.std.specs.Prelude.{replicate}
-use Rattle.std.proofs.lemmas.List.{get_or-replicate, length-replicate, get_or-take, get_or-drop, length-take, length-drop}
-use Rattle.std.proofs.lemmas.List.Sums.{AllPass-from_list_all}
+use Rattle.std.proofs.lemmas.List.{get_or-replicate, length-replicate}
 use Rattle.std.proofs.lemmas.Option.{slice_get-get_or, slice_get_within}
-use Rattle.std.specs.List.{cons_option, filter_map, list_all, range_with_len, slice_range}
-use Rattle.site_types.specs.declared.point_state.PointState.{PointState}
-use Rattle.site_types.specs.declared.point_state.PointState.TheVariants.{Quiet, Alarm, Gone}
+use Rattle.std.specs.List.{cons_option, filter_map, range_with_len}
 use Rattle.loop_poller.specs.declared.group.Group.{Group}
-use Rattle.loop_poller.specs.Groups.{AreGroups, FollowFrom, is_quiet_state}
+use Rattle.loop_poller.specs.Groups.{AreGroups, FollowFrom}
 use Rattle.loop_poller.proofs.Lines.{set_at, set_past}
 use Rattle.loop_poller.proofs.Windows.{range-more}
-
-quiet_is : (state : PointState) → is_quiet_state state ≡ true → state ≡ Quiet
-quiet_is Quiet e = refl
-quiet_is Alarm e = absurd (cc)
-quiet_is Gone e = absurd (cc)
-
--- a part of the states that are all quiet
-pub quiet_part : (states : List PointState) (first count : ℕ) → first + count ≤ length states
-    → list_all is_quiet_state (slice_range states first (first + count)) ≡ true → (k : ℕ) → k < count → slice_get states (first + k) ≡ Some Quiet
-quiet_part states first count fits all k below =
-    let size : first + count - first ≡ count = omega arith in
-    let long : length (take count (drop first states)) ≡ count = simp (length-take, length-drop) (omega (arith, fits)) in
-    let part : list_all is_quiet_state (take count (drop first states)) ≡ true = ap (λ n. list_all is_quiet_state (take n (drop first states))) (sym size) ∙ all in
-    let passes = AllPass-from_list_all is_quiet_state (take count (drop first states)) part k Quiet (omega (arith, long, below)) in
-    let read : get_or (take count (drop first states)) k Quiet ≡ get_or states (first + k) Quiet = rw (get_or-take, get_or-drop) refl in
-    slice_get-get_or states (first + k) Quiet (omega (arith, fits, below))
-    ∙ ap Some (quiet_is (get_or states (first + k) Quiet) (ap is_quiet_state (sym read) ∙ passes))
 
 -- one address more was looked at, and the point there follows the others
 pub found_next : (f : ℕ → Option ℕ) (first n begin count point : ℕ) → filter_map f (range_with_len first n) ≡ range_with_len begin count
