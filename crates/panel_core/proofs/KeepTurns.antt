@@ -106,6 +106,14 @@ none_left site left [] none idle = rw (none) (ap (λ xs. xs ++ []) (go 1 site.pa
         (ap (count_from first) (zeros_everywhere 8 (first - 1)))
         ∙ go (first + 1) many
 
+-- of entries that are kept none are left
+pub none_kept : (entries kept : List ℕ) → entries ≡ kept → AreLeft entries kept (replicate 8 0)
+none_kept entries kept same k small =
+    zeros_everywhere 8 k ∙ sym (none_more (slice_index entries k) (slice_index kept k) (ap (λ xs. slice_index xs k) same))
+  where
+    none_more : (a b : ℕ) → a ≡ b → a - b ≡ 0
+    none_more a b e = omega (arith, e)
+
 -- and the journal can keep it
 pub can_commit : (site : Site) (kept : Retained) (before : List Moment) (system : System) (journal : Journal) (changes : List Change)
     → StandsFor site kept before system → KeepsRun site kept before journal → IsRun site.panels before → changes ≡ batch site kept before

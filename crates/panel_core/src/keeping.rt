@@ -43,13 +43,24 @@ impl System {
         ensures { KeepsLeft D.honest D.images D.moment D.left_since D.faults disk.old disk.new
             self.now journal.old result journal.new }
     {
-        let left = self.counts.left_of(entries);
-        let waiting = self.desk.waiting();
-        if are_none(&left) && waiting.is_empty() {
+        if are_kept(entries, &self.counts.entries) && self.desk.waiting().is_empty() {
             idle_turn(journal, disk)
         } else {
-            keep_turn(journal, disk, &make_batch(&self.site, &left, waiting))
+            self.commit_left(entries, journal, disk)
         }
+    }
+
+    // What is left to keep, where there is anything, is committed: here alone room is made for a batch.
+    fn commit_left<D: Disk>(&self, entries: &[u64; 8], journal: &mut Journal, disk: &mut D) -> Store
+        requires may { MayKeep journal.old self.now }
+        requires stands { Stands D.honest D.images disk.old journal.old }
+        requires told { TellsEntries self.now.panels.items entries.now }
+        ensures { KeepsLeft D.honest D.images D.moment D.left_since D.faults disk.old disk.new
+            self.now journal.old result journal.new }
+    {
+        let left = self.counts.left_of(entries);
+        let batch = make_batch(&self.site, &left, self.desk.waiting());
+        keep_turn(journal, disk, &batch)
     }
 
     // The operations that wait get their answers, and what is kept is noted unless Keep failed.
@@ -64,7 +75,7 @@ impl System {
     }
 }
 
-ghost use Rattle.std.specs.Prelude.{replicate, true};
+ghost use Rattle.std.specs.Prelude.{true};
 ghost use Rattle.panel_core.specs.Keeping.{has_failed as answers_failed};
 
 /// Whether a turn of Keep failed.
@@ -83,8 +94,8 @@ fn are_same(counters: &[u32; 8], others: &[u32; 8]) -> bool
     counters == others
 }
 
-fn are_none(entries: &[u64; 8]) -> bool
-    ensures { result ≡ true → entries.now ≡ replicate 8 0 }
+fn are_kept(entries: &[u64; 8], kept: &[u64; 8]) -> bool
+    ensures { result ≡ true → entries.now ≡ kept.now }
 {
-    entries == &[0; 8]
+    entries == kept
 }

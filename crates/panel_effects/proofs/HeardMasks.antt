@@ -1,11 +1,10 @@
 -- What the words that a panel keeps say is exactly the facts of its turn of Effect, with no bit besides.
-use Rattle.std.proofs.Common.{◌≡◌, ◌≢◌, ℕ, zero, suc, ◌+◌, ◌-◌, ◌≤◌, ◌<◌, ◌&&◌, List, [], ◌∷◌, length, map, slice_get}
-use Rattle.std.proofs.Common.{Option, Some, None, inl, inr, Bool, true, false, refl, sym, ◌∙◌, ap, arith}
+use Rattle.std.proofs.Common.{◌≡◌, ℕ, zero, suc, ◌+◌, ◌-◌, ◌≤◌, ◌<◌, ◌&&◌, List, [], ◌∷◌, length, map, slice_get}
+use Rattle.std.proofs.Common.{Option, Some, None, inl, inr, Bool, false, refl, sym, ◌∙◌, ap, arith}
 use Rattle.std.specs.Prelude.{nat_lt, slice_index_or}
 use Rattle.std.specs.List.{range_with_len}
 use Rattle.site_types.specs.declared.retained.Retained.{Retained}
 use Rattle.site_types.specs.declared.site.Site.{Site}
-use Rattle.site_types.specs.declared.word.Word.{Word}
 use Rattle.site_types.specs.declared.zone.Zone.{Zone}
 use Rattle.site_types.specs.Bits.{mask_of}
 use Rattle.site_types.specs.Done.{Done}
@@ -20,7 +19,7 @@ use Rattle.panel_rules.specs.Kept.{kept_at}
 use Rattle.panel_rules.specs.Moments.{Moment, tick_of}
 use Rattle.panel_rules.specs.Run.{facts_of, tells_fault}
 use Rattle.panel_rules.specs.Words.{kept_word_of}
-use Rattle.panel_rules.specs.Zones.{held_answers, holds_by_hand, holds_released, panel_of, panel_of_zone}
+use Rattle.panel_rules.specs.Zones.{held_answers, holds_by_hand, holds_released, panel_of}
 use Rattle.panel_rules.proofs.Joined.{kept_stamp}
 use Rattle.panel_bridges.proofs.WordFacts.{fault_in, hand_in, released_in}
 use Rattle.output_calls.specs.SilenceCalls.{zone_masks}
@@ -125,19 +124,18 @@ zones_heard site valid test masks each are same =
           | inr t ↦ are.heard q (low, t.1) ∙ same q (low, t.1)
         ]
 
--- flags of the panels of the site, and none of the others
-pub record AreFaults (site : Site) (flags : List Bool) (each : ℕ → Bool) : Type 0 where
-  pub heard : (q : ℕ) → IsPanel site q → slice_index_or flags (q - 1) false ≡ each q
-  pub none : (q : ℕ) → site.panels < q → q ≤ 8 → slice_index_or flags (q - 1) false ≡ false
+-- a flag of each panel of the site, and none of the others
+pub record AreFlags (site : Site) (flag : ℕ → Bool) (each : ℕ → Bool) : Type 0 where
+  pub heard : (q : ℕ) → IsPanel site q → flag (q - 1) ≡ each q
+  pub none : (q : ℕ) → site.panels < q → q ≤ 8 → flag (q - 1) ≡ false
 
-pub faults_heard : (site : Site) (test : ℕ → Bool) (flags : List Bool) (each : ℕ → Bool) → AreFaults site flags each
-    → ((q : ℕ) → IsPanel site q → each q ≡ test q) → mask_of 8 (λ k. slice_index_or flags k false) ≡ panel_mask site test
-faults_heard site test flags each are same =
-    mask_same 8 (λ k. slice_index_or flags k false) (λ k. nat_lt k site.panels && test (k + 1))
-    (λ k small. (let place : k + 1 - 1 ≡ k = omega arith in
-    sym (ap (λ n. slice_index_or flags n false) place) ∙ at k small))
+pub flags_heard : (site : Site) (test : ℕ → Bool) (flag each : ℕ → Bool) → AreFlags site flag each
+    → ((q : ℕ) → IsPanel site q → each q ≡ test q) → mask_of 8 flag ≡ panel_mask site test
+flags_heard site test flag each are same =
+    mask_same 8 flag (λ k. nat_lt k site.panels && test (k + 1))
+    (λ k small. (let place : k + 1 - 1 ≡ k = omega arith in sym (ap flag place) ∙ at k small))
   where
-    at : (k : ℕ) → k < 8 → slice_index_or flags (k + 1 - 1) false ≡ (nat_lt k site.panels && test (k + 1))
+    at : (k : ℕ) → k < 8 → flag (k + 1 - 1) ≡ (nat_lt k site.panels && test (k + 1))
     at k small =
         elim (lt_tells k site.panels) [
           | inl t ↦ (let less = t.1 in let p : IsPanel site (k + 1) = (omega arith, omega (arith, less)) in
@@ -145,3 +143,8 @@ faults_heard site test flags each are same =
           | inr t ↦ (let far = t.1 in
               are.none (k + 1) (omega (arith, far)) (omega (arith, small)) ∙ ap (λ b. b && test (k + 1)) (sym t.0))
         ]
+
+-- where the flags are a list
+pub faults_heard : (site : Site) (test : ℕ → Bool) (flags : List Bool) (each : ℕ → Bool) → AreFlags site (λ k. slice_index_or flags k false) each
+    → ((q : ℕ) → IsPanel site q → each q ≡ test q) → mask_of 8 (λ k. slice_index_or flags k false) ≡ panel_mask site test
+faults_heard site test flags each are same = flags_heard site test (λ k. slice_index_or flags k false) each are same

@@ -4,7 +4,7 @@ ghost use Rattle.panel_effects.specs.Heard.{TellsFacts};
 
 use cause_effect::Facts;
 use panel_links::Ring;
-use site_types::mask_from_8;
+use site_types::with_bit_8;
 
 /// The facts that a turn of Effect of a panel made now goes by: what the words that the panel keeps of the panels
 /// of the ring say of zones, and which of them tell a fault.
@@ -15,16 +15,18 @@ pub fn facts_heard(ring: &Ring, panels: u8, panel: u8) -> Facts
 {
     let mut zones = [0; 8];
     let mut manual = [0; 8];
-    let mut faulty = [false; 8];
+    let mut faults = 0;
     for source in 1..panels + 1 {
         let word = ring.word(panel, source);
         zones[source as usize - 1] = word.released;
         manual[source as usize - 1] = word.manual;
-        faulty[source as usize - 1] = word.fault;
+        if word.fault {
+            faults = with_bit_8(faults, source - 1, true);
+        }
     }
     Facts {
         zones,
         manual,
-        faults: mask_from_8(&faulty),
+        faults,
     }
 }

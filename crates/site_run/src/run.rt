@@ -4,6 +4,7 @@ ghost use Rattle.face_text.specs.Faces.{empty_face};
 ghost use Rattle.face_text.specs.Timelines.{empty_faces};
 ghost use Rattle.panel_core.specs.Keeping.{has_failed};
 ghost use Rattle.panel_core.specs.Marks.{is_marked};
+ghost use Rattle.panel_core.specs.ShownFaces.{ShowsFace};
 ghost use Rattle.panel_core.specs.Stands.{HasPanel};
 ghost use Rattle.panel_parts.specs.Stands.{HasPlan};
 ghost use Rattle.panel_edges.specs.Contents.{Grows, GrowsByFront};
@@ -334,8 +335,16 @@ fn put_face(system: &System, panel: u8, shown: &Face, face: &mut Face)
     ensures same { is_marked system.now.changed panel ≡ false → face.new ≡ shown.now }
 {
     if system.has_changed(panel) {
-        *face = system.face(panel);
+        put_new_face(system, panel, face);
     } else {
         *face = *shown;
     }
+}
+
+// Puts what a panel shows: here alone room is made for one more face.
+fn put_new_face(system: &System, panel: u8, face: &mut Face)
+    requires { HasPanel panel system.now }
+    ensures { ShowsFace system.now panel face.new }
+{
+    *face = system.face(panel);
 }

@@ -1,12 +1,12 @@
-use Rattle.std.proofs.Common.{◌∙◌, ◌≤◌, ◌<◌, ℕ, ap, arith, false, slice_index_or}
+use Rattle.std.proofs.Common.{◌∙◌, ◌≤◌, ◌<◌, ℕ, ap, arith}
 use Rattle.site_types.specs.declared.word.Word.{Word}
-use Rattle.site_types.specs.Bits.{mask_of}
+use Rattle.site_types.specs.Bits.{has_bit}
+use Rattle.site_types.proofs.Masks.{mask_is}
 use Rattle.site_types.specs.Valid.{IsPanel}
 use Rattle.panel_links.specs.Stands.{kept_in}
 use Rattle.panel_rules.specs.Run.{facts_of, tells_fault}
-use Rattle.panel_rules.specs.Words.{ring_calls}
 use Rattle.panel_rules.proofs.RingWords.{kept_by_ring}
-use Rattle.panel_effects.proofs.HeardMasks.{fault_heard, faults_heard, hand_heard, released_heard, zones_heard}
+use Rattle.panel_effects.proofs.HeardMasks.{fault_heard, flags_heard, hand_heard, released_heard, zones_heard}
 use Rattle.panel_effects.proofs.heard.facts_heard.Goals as goal
 
 pub returns : goal.returns
@@ -42,8 +42,8 @@ returns c site kept done before valid stands =
           })
           (λ q iq. ap (λ (w : Word). w.manual) (word q iq) ∙ hand_heard site kept done panel before q);
       faults =
-          c.mask_from_8.ensures ∙ ap (λ (n : ℕ). mask_of n (λ k. slice_index_or c.loop-source.faulty k false)) held.faulty_wide
-          ∙ faults_heard site facts.faulty c.loop-source.faulty (λ q. (kept_in ring panel q).fault)
+          mask_is 8 c.loop-source.faults held.fits
+          ∙ flags_heard site facts.faulty (has_bit c.loop-source.faults) (λ q. (kept_in ring panel q).fault)
           (record {
             heard = λ q iq. held.faulty q iq.0 (read q iq);
             none = λ q beyond high. held.no_faulty q (omega arith) (far q beyond) high;

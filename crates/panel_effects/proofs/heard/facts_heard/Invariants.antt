@@ -1,4 +1,5 @@
-use Rattle.std.proofs.Common.{◌≡◌, ◌-◌, ◌<◌, ◌≤◌, ℕ, false, length, slice_index_or}
+use Rattle.std.proofs.Common.{◌≡◌, ◌-◌, ◌<◌, ◌≤◌, ◌^◌, ℕ, false, length, slice_index_or}
+use Rattle.site_types.specs.Bits.{has_bit}
 use Rattle.panel_links.specs.Stands.{kept_in}
 use Rattle.panel_effects.proofs.heard.facts_heard.Given as goal
 
@@ -6,11 +7,11 @@ abbrev pub invariant-loop-source : goal.invariant-loop-source
 invariant-loop-source l = record {
   zones_wide : length l.zones ≡ 8;
   manual_wide : length l.manual ≡ 8;
-  faulty_wide : length l.faulty ≡ 8;
+  fits : l.faults < 2 ^ 8;
   zones : (q : ℕ) → 1 ≤ q → q < l.source → slice_index_or l.zones (q - 1) 0 ≡ (kept_in l.ring l.panel q).released;
   manual : (q : ℕ) → 1 ≤ q → q < l.source → slice_index_or l.manual (q - 1) 0 ≡ (kept_in l.ring l.panel q).manual;
-  faulty : (q : ℕ) → 1 ≤ q → q < l.source → slice_index_or l.faulty (q - 1) false ≡ (kept_in l.ring l.panel q).fault;
+  faulty : (q : ℕ) → 1 ≤ q → q < l.source → has_bit l.faults (q - 1) ≡ (kept_in l.ring l.panel q).fault;
   no_zones : (q : ℕ) → 1 ≤ q → l.source ≤ q → q ≤ 8 → slice_index_or l.zones (q - 1) 0 ≡ 0;
   no_manual : (q : ℕ) → 1 ≤ q → l.source ≤ q → q ≤ 8 → slice_index_or l.manual (q - 1) 0 ≡ 0;
-  no_faulty : (q : ℕ) → 1 ≤ q → l.source ≤ q → q ≤ 8 → slice_index_or l.faulty (q - 1) false ≡ false;
+  no_faulty : (q : ℕ) → 1 ≤ q → l.source ≤ q → q ≤ 8 → has_bit l.faults (q - 1) ≡ false;
 }
