@@ -1,10 +1,10 @@
 -- Points of a loop whose places in the site follow one another.
-use Rattle.std.specs.Prelude.{◌≡◌, ◌≤◌, ◌+◌, ◌-◌, ◌*◌, ℕ, Bool, true, false, List, Option, Some, None}
+use Rattle.std.specs.Prelude.{◌≡◌, ◌≤◌, ◌+◌, ◌-◌, ◌*◌, ℕ, true, List, Option, Some, None}
 use Rattle.std.specs.Prelude.{drop, length, map, slice_get, slice_index_or, take}
 use Rattle.std.specs.List.{filter_map, range_with_len}
 use Rattle.site_types.specs.declared.answer.Answer.{Answer}
 use Rattle.site_types.specs.declared.point_state.PointState.{PointState}
-use Rattle.site_types.specs.declared.point_state.PointState.TheVariants.{Quiet, Alarm, Gone}
+use Rattle.site_types.specs.declared.point_state.PointState.TheVariants.{Quiet}
 use Rattle.answer_lanes.specs.Points.{answer_behind}
 use Rattle.answer_lanes.specs.Runs.{item_at}
 use Rattle.loop_poller.specs.declared.group.Group.{Group}
@@ -23,11 +23,6 @@ FollowFrom points first group = points_of_eight points first ≡ range_with_len 
 abbrev pub AreGroups : List (Option ℕ) → List (Option Group) → Type 0
 AreGroups points groups = (number : ℕ) (group : Group) → slice_get groups number ≡ Some (Some group)
     → FollowFrom points (8 * number + 1) group
-
-abbrev pub is_quiet_state : PointState → Bool
-is_quiet_state Quiet = true
-is_quiet_state Alarm = false
-is_quiet_state Gone = false
 
 -- what a point tells in a tick that lies so many places behind the first one of its group, is in this state, and is
 -- reached

@@ -35,7 +35,8 @@ impl Group {
     fn put_runs(&self, states: &[PointState], now: Tick, answers: &mut Lane<Answer>)
         requires count { length states.now ≤ 8 }
         requires room { HasRoom answers.old 8 }
-        ensures { answers.new ≡ with_put answers.old (state_answers now.0 self.now.first states.now) }
+        ensures { answers.new
+            ≡ with_put answers.old (state_answers now.0 self.now.first states.now) }
     {
         let mut place = 0;
         let mut rest = states;
