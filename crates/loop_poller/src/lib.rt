@@ -5,8 +5,8 @@
 //! be at. Begin with [`Poller`]: it is made for a panel of a site, is told of points and pieces of cable, and
 //! in its turn of a tick puts the answers of that tick into a lane, in order of loop, then address.
 //!
-//! Where the points at eight addresses stand one behind the other in the site, all of them are quiet and nothing is
-//! wrong with the cable, their answers are put as one run.
+//! Where the points at eight addresses stand one behind the other in the site and nothing is wrong with the cable,
+//! their answers are put in runs of points in the same state: one run where all are quiet.
 //!
 //! [`Poller::new`] alone takes memory, and goes over the site's points once for each loop. Of each eight addresses
 //! of a loop it keeps six bytes besides the points: the place of the first one and how many there are, where they

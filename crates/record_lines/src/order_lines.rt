@@ -10,7 +10,7 @@ ghost use Rattle.tick_units.specs.Orders.{IsOrder, IsPanelCount};
 use crate::why::Why;
 use crate::words::task;
 use arrayvec::ArrayVec;
-use line_fields::{after_space, before_space, is_word, space_count, split_field};
+use line_fields::split_field;
 use site_types::read_number;
 use tick_units::{BadOrder, Order, Seat, Task};
 
