@@ -1,5 +1,5 @@
 -- Of the code of an operation its bytes alone count.
-use Rattle.std.proofs.Common.{◌≡◌, ◌==◌, ℕ, Bool, true, false, List, [], ◌∷◌, length, Option, not, nat_le, if◌then◌else◌, refl, ap, subst}
+use Rattle.std.proofs.Common.{◌≡◌, ℕ, Bool, true, false, List, ◌∷◌, length, Option, not, nat_le, if◌then◌else◌, refl, subst}
 use Rattle.std.proofs.Math.Path.{fun_ext}
 use Rattle.std.specs.Prelude.{option_map}
 use Rattle.arrayvec.specs.ArrayString.{ArrayString}
@@ -23,7 +23,7 @@ use Rattle.panel_parts.specs.Applied.{applied}
 use Rattle.panel_parts.specs.Stands.{PanelStands}
 use Rattle.panel_parts.specs.declared.parts.Parts.{Parts}
 use Rattle.panel_rules.specs.Moments.{Moment, Happened, tick_of}
-use Rattle.site_run.proofs.Codes.{desk_viewed}
+use Rattle.site_run.proofs.Codes.{desk_viewed, parts_viewed as same_parts}
 
 module _ (site : Site) (kept : Retained) (panel : ℕ) (history : List NodeMoment) (at : ℕ) (operation : Operation) where
   abbrev with_code : Option ArrayString → List NodeMoment
@@ -69,24 +69,7 @@ module _ (site : Site) (kept : Retained) (panel : ℕ) (history : List NodeMomen
 
     parts_viewed : (told : Told) (parts : Parts) (one other : Option ArrayString)
         → PanelStands site kept done told panel (befallen (with_code one)) parts → PanelStands site kept done told panel (befallen (with_code other)) parts
-    parts_viewed told parts one other h =
-        record {
-          member = h.member;
-          polls = h.polls;
-          answers = h.answers;
-          decides = h.decides;
-          findings = h.findings;
-          holds = h.holds;
-          supplies = h.supplies;
-          effects = record { masks = h.effects.masks; normal = h.effects.normal; manual = h.effects.manual; requests = h.effects.requests };
-          drives = record {
-            silence = h.drives.silence;
-            delays = h.drives.delays;
-            routing = h.drives.routing;
-            on = h.drives.on;
-            sounders = h.drives.sounders;
-          };
-        }
+    parts_viewed told parts one other h = same_parts site kept at operation (befallen history) one other done told panel parts h
 
   code_viewed : (code : Option ArrayString) (node : Node) → NodeStandsFor site panel kept (with_code code) node
       → NodeStandsFor site panel kept (with_code (option_map label_view code)) node
