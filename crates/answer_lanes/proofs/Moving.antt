@@ -13,7 +13,7 @@ use Rattle.std.specs.Result.{IsOk, OnOk}
 use Rattle.std.specs.Prelude.{Result, Ok, Err}
 use Rattle.tick_units.specs.Lane.{LaneState, with_put}
 use Rattle.answer_lanes.specs.declared.run.Run.{Run}
-use Rattle.answer_lanes.specs.Runs.{AreInLane, HoldsItems, HasShortCount, all_items, front_of, item_at, items_of, rest_of}
+use Rattle.answer_lanes.specs.Runs.{AreInLane, HoldsItems, HasShortCount, all_items, front_of, items_of, rest_of}
 use Rattle.answer_lanes.specs.Moves.{AreWhole, MayMove, MovesItems}
 
 pub range_parts : (a m n : ℕ) → range_with_len a (m + n) ≡ range_with_len a m ++ range_with_len (a + m) n
@@ -26,47 +26,47 @@ range_parts a (suc m) n =
     let at : a + suc m ≡ (a + 1) + m = omega arith in
     rw (count, at) (ap (λ xs. a ∷ xs) (range_parts (a + 1) m n))
 
-module _ {T : Type 0} (behind : T → ℕ → T) where
-  pub length_run : (run : Run T) → length (items_of behind run) ≡ run.count
-  length_run run = length-map-range_with_len (item_at behind run.first) run.taken run.count
+module _ {S T : Type 0} (item_at : S → ℕ → T) where
+  pub length_run : (run : Run S) → length (items_of item_at run) ≡ run.count
+  length_run run = length-map-range_with_len (item_at run.first) run.taken run.count
 
   -- a run is its first items and what is left of it behind them
-  pub run_parts : (run : Run T) (most : ℕ)
-      → items_of behind run ≡ items_of behind (front_of most run) ++ items_of behind (rest_of (min run.count most) run)
+  pub run_parts : (run : Run S) (most : ℕ)
+      → items_of item_at run ≡ items_of item_at (front_of most run) ++ items_of item_at (rest_of (min run.count most) run)
   run_parts run most =
       let m = min run.count most in
-      let item = item_at behind run.first in
+      let item = item_at run.first in
       let sum : run.count ≡ m + (run.count - m) = omega arith in
       ap (λ n. map item (range_with_len run.taken n)) sum ∙ ap (map item) (range_parts run.taken m (run.count - m))
       ∙ map-append item (range_with_len run.taken m) (range_with_len (run.taken + m) (run.count - m))
 
-  pub items_more : (runs : List (Run T)) (run : Run T) → all_items behind (runs ++ run ∷ []) ≡ all_items behind runs ++ items_of behind run
+  pub items_more : (runs : List (Run S)) (run : Run S) → all_items item_at (runs ++ run ∷ []) ≡ all_items item_at runs ++ items_of item_at run
   items_more runs run =
-      flat_map-append (items_of behind) runs (run ∷ [])
-      ∙ ap (λ xs. all_items behind runs ++ xs) (flat_map-cons (items_of behind) run [] ∙ append-nil (items_of behind run))
+      flat_map-append (items_of item_at) runs (run ∷ [])
+      ∙ ap (λ xs. all_items item_at runs ++ xs) (flat_map-cons (items_of item_at) run [] ∙ append-nil (items_of item_at run))
 
   -- there are no more runs than items
-  pub few_runs : (runs : List (Run T)) → All HoldsItems runs → length runs ≤ length (all_items behind runs)
+  pub few_runs : (runs : List (Run S)) → All HoldsItems runs → length runs ≤ length (all_items item_at runs)
   few_runs [] held = omega arith
   few_runs (run ∷ runs) held =
       let one = (All-head HoldsItems run runs held).some in
       let more = few_runs runs (All-tail HoldsItems run runs held) in
-      let e = ap length (flat_map-cons (items_of behind) run runs) in
-      let sum = length-append (items_of behind run) (all_items behind runs) in
+      let e = ap length (flat_map-cons (items_of item_at) run runs) in
+      let sum = length-append (items_of item_at run) (all_items item_at runs) in
       let here = length_run run in
       omega (arith, one, more, e, sum, here)
 
   -- some of the items to move were moved, and the others are left
-  pub record Moving (count : ℕ) (start : List (Run T)) (left : ℕ) (into runs : List (Run T)) (capacity : ℕ) : Type 0 where
-    pub moved : all_items behind into ++ take left (all_items behind runs) ≡ take count (all_items behind start)
-    pub rest : drop left (all_items behind runs) ≡ drop count (all_items behind start)
-    pub enough : left ≤ length (all_items behind runs)
+  pub record Moving (count : ℕ) (start : List (Run S)) (left : ℕ) (into runs : List (Run S)) (capacity : ℕ) : Type 0 where
+    pub moved : all_items item_at into ++ take left (all_items item_at runs) ≡ take count (all_items item_at start)
+    pub rest : drop left (all_items item_at runs) ≡ drop count (all_items item_at start)
+    pub enough : left ≤ length (all_items item_at runs)
     pub into_held : All HoldsItems into
     pub held : All HoldsItems runs
     pub few : length into + left ≤ 32
     pub room : length runs ≤ capacity
 
-  pub begins : (count : ℕ) (runs into : List (Run T)) (capacity : ℕ) → MayMove behind count runs capacity → count ≤ 32 → into ≡ []
+  pub begins : (count : ℕ) (runs into : List (Run S)) (capacity : ℕ) → MayMove item_at count runs capacity → count ≤ 32 → into ≡ []
       → Moving count runs count into runs capacity
   begins count runs into capacity may few none = subst (λ xs. Moving count runs count xs runs capacity) (sym none) (record {
     moved = refl;
@@ -78,32 +78,32 @@ module _ {T : Type 0} (behind : T → ℕ → T) where
     room = may.room;
   })
 
-  pub ends : (count : ℕ) (start : List (Run T)) (left : ℕ) (into runs : List (Run T)) (capacity : ℕ)
-      → Moving count start left into runs capacity → left ≡ 0 → MovesItems behind count start into runs
+  pub ends : (count : ℕ) (start : List (Run S)) (left : ℕ) (into runs : List (Run S)) (capacity : ℕ)
+      → Moving count start left into runs capacity → left ≡ 0 → MovesItems item_at count start into runs
   ends count start left into runs capacity h none =
       record {
-        first = sym (append-nil (all_items behind into)) ∙ subst (λ n. all_items behind into ++ take n (all_items behind runs) ≡ take count (all_items behind start)) none h.moved;
-        behind_them = subst (λ n. drop n (all_items behind runs) ≡ drop count (all_items behind start)) none h.rest;
+        first = sym (append-nil (all_items item_at into)) ∙ subst (λ n. all_items item_at into ++ take n (all_items item_at runs) ≡ take count (all_items item_at start)) none h.moved;
+        behind_them = subst (λ n. drop n (all_items item_at runs) ≡ drop count (all_items item_at start)) none h.rest;
         held = h.into_held;
         left_held = h.held;
       }
 
   -- runs are moved next, and behind them others are left
-  step : (count : ℕ) (start : List (Run T)) (left : ℕ) (into runs : List (Run T)) (capacity : ℕ) → Moving count start left into runs capacity
-      → (moved rest : List (Run T)) (n : ℕ) → n ≡ length (all_items behind moved) → n ≤ left
-      → all_items behind runs ≡ all_items behind moved ++ all_items behind rest → All HoldsItems moved → All HoldsItems rest → length rest ≤ capacity
+  step : (count : ℕ) (start : List (Run S)) (left : ℕ) (into runs : List (Run S)) (capacity : ℕ) → Moving count start left into runs capacity
+      → (moved rest : List (Run S)) (n : ℕ) → n ≡ length (all_items item_at moved) → n ≤ left
+      → all_items item_at runs ≡ all_items item_at moved ++ all_items item_at rest → All HoldsItems moved → All HoldsItems rest → length rest ≤ capacity
       → Moving count start (left - n) (into ++ moved) rest capacity
   step count start left into runs capacity h moved rest n size fits parts moved_held held room =
-      let F = all_items behind moved in
-      let A = all_items behind rest in
-      let I = all_items behind into in
+      let F = all_items item_at moved in
+      let A = all_items item_at rest in
+      let I = all_items item_at into in
       let sum : length F + (left - n) ≡ left = omega (arith, size, fits) in
-      let joined : all_items behind (into ++ moved) ≡ I ++ F = flat_map-append (items_of behind) into moved in
-      let taken : F ++ take (left - n) A ≡ take left (all_items behind runs) =
+      let joined : all_items item_at (into ++ moved) ≡ I ++ F = flat_map-append (items_of item_at) into moved in
+      let taken : F ++ take (left - n) A ≡ take left (all_items item_at runs) =
       sym (take-append-add F A (left - n)) ∙ ap (λ k. take k (F ++ A)) sum ∙ ap (take left) (sym parts) in
-      let dropped : drop (left - n) A ≡ drop left (all_items behind runs) =
+      let dropped : drop (left - n) A ≡ drop left (all_items item_at runs) =
       sym (drop-append-add F A (left - n)) ∙ ap (λ k. drop k (F ++ A)) sum ∙ ap (drop left) (sym parts) in
-      let all : length (all_items behind runs) ≡ length F + length A = ap length parts ∙ length-append F A in
+      let all : length (all_items item_at runs) ≡ length F + length A = ap length parts ∙ length-append F A in
       let enough = h.enough in
       let few = h.few in
       let most = few_runs moved moved_held in
@@ -119,67 +119,67 @@ module _ {T : Type 0} (behind : T → ℕ → T) where
       }
 
   -- the first runs are moved whole
-  pub moves_whole : (count : ℕ) (start : List (Run T)) (left : ℕ) (into runs : List (Run T)) (capacity : ℕ) → Moving count start left into runs capacity
-      → (k n : ℕ) → AreWhole behind left runs k n → Moving count start (left - n) (into ++ take k runs) (drop k runs) capacity
+  pub moves_whole : (count : ℕ) (start : List (Run S)) (left : ℕ) (into runs : List (Run S)) (capacity : ℕ) → Moving count start left into runs capacity
+      → (k n : ℕ) → AreWhole item_at left runs k n → Moving count start (left - n) (into ++ take k runs) (drop k runs) capacity
   moves_whole count start left into runs capacity h k n whole =
-      let parts = ap (all_items behind) (sym (take-append-drop k runs)) ∙ flat_map-append (items_of behind) (take k runs) (drop k runs) in
+      let parts = ap (all_items item_at) (sym (take-append-drop k runs)) ∙ flat_map-append (items_of item_at) (take k runs) (drop k runs) in
       let room = h.room in
       let size = length-drop k runs in
       step count start left into runs capacity h (take k runs) (drop k runs) n whole.hold whole.few parts
       (All-take HoldsItems k runs h.held) (All-drop HoldsItems k runs h.held) (omega (arith, room, size))
 
   -- the first items of the first run are moved next
-  module _ (count : ℕ) (start : List (Run T)) (left : ℕ) (into : List (Run T)) (run : Run T) (tail : List (Run T)) (capacity : ℕ)
+  module _ (count : ℕ) (start : List (Run S)) (left : ℕ) (into : List (Run S)) (run : Run S) (tail : List (Run S)) (capacity : ℕ)
       (h : Moving count start left into (run ∷ tail) capacity) (some : 0 < left) where
     abbrev pub m : ℕ
     m = min run.count left
 
-    abbrev pub front : Run T
+    abbrev pub front : Run S
     front = front_of left run
 
     first : HoldsItems run
     first = All-head HoldsItems run tail h.held
 
-    one_run : all_items behind (front ∷ []) ≡ items_of behind front
-    one_run = flat_map-cons (items_of behind) front [] ∙ append-nil (items_of behind front)
+    one_run : all_items item_at (front ∷ []) ≡ items_of item_at front
+    one_run = flat_map-cons (items_of item_at) front [] ∙ append-nil (items_of item_at front)
 
-    front_moves : (rest : List (Run T)) → all_items behind (run ∷ tail) ≡ items_of behind front ++ all_items behind rest
+    front_moves : (rest : List (Run S)) → all_items item_at (run ∷ tail) ≡ items_of item_at front ++ all_items item_at rest
         → All HoldsItems rest → length rest ≤ capacity → Moving count start (left - m) (into ++ front ∷ []) rest capacity
     front_moves rest parts held room =
         let one = first.some in
         let is = first.is in
-        let size : m ≡ length (all_items behind (front ∷ [])) = sym (ap length one_run ∙ length_run front) in
+        let size : m ≡ length (all_items item_at (front ∷ [])) = sym (ap length one_run ∙ length_run front) in
         step count start left into (run ∷ tail) capacity h (front ∷ []) rest m size (omega arith)
-        (parts ∙ ap (λ xs. xs ++ all_items behind rest) (sym one_run))
+        (parts ∙ ap (λ xs. xs ++ all_items item_at rest) (sym one_run))
         (All-cons HoldsItems front [] (record { some = omega (arith, one, some); is = omega (arith, is) }) (All-nil HoldsItems)) held room
 
     pub whole : m ≡ run.count → Moving count start (left - m) (into ++ front ∷ []) tail capacity
     whole all =
-        let none : items_of behind (rest_of m run) ≡ [] =
-        ap (λ n. map (item_at behind run.first) (range_with_len (run.taken + m) n)) (let z : run.count - m ≡ 0 = omega (arith, all) in z) in
-        let parts = flat_map-cons (items_of behind) run tail
-        ∙ ap (λ xs. xs ++ all_items behind tail) (run_parts run left ∙ ap (λ xs. items_of behind front ++ xs) none ∙ append-nil (items_of behind front)) in
+        let none : items_of item_at (rest_of m run) ≡ [] =
+        ap (λ n. map (item_at run.first) (range_with_len (run.taken + m) n)) (let z : run.count - m ≡ 0 = omega (arith, all) in z) in
+        let parts = flat_map-cons (items_of item_at) run tail
+        ∙ ap (λ xs. xs ++ all_items item_at tail) (run_parts run left ∙ ap (λ xs. items_of item_at front ++ xs) none ∙ append-nil (items_of item_at front)) in
         let room = h.room in
         front_moves tail parts (All-tail HoldsItems run tail h.held) (omega (arith, room))
 
     pub parted : m < run.count → Moving count start (left - m) (into ++ front ∷ []) (rest_of m run ∷ tail) capacity
     parted less =
-        let parts = flat_map-cons (items_of behind) run tail
-        ∙ ap (λ xs. xs ++ all_items behind tail) (run_parts run left)
-        ∙ append_assoc (items_of behind front) (items_of behind (rest_of m run)) (all_items behind tail)
-        ∙ ap (λ xs. items_of behind front ++ xs) (sym (flat_map-cons (items_of behind) (rest_of m run) tail)) in
+        let parts = flat_map-cons (items_of item_at) run tail
+        ∙ ap (λ xs. xs ++ all_items item_at tail) (run_parts run left)
+        ∙ append_assoc (items_of item_at front) (items_of item_at (rest_of m run)) (all_items item_at tail)
+        ∙ ap (λ xs. items_of item_at front ++ xs) (sym (flat_map-cons (items_of item_at) (rest_of m run) tail)) in
         let is = first.is in
         let room = h.room in
         front_moves (rest_of m run ∷ tail) parts
         (All-cons HoldsItems (rest_of m run) tail (record { some = omega (arith, less); is = omega (arith, is, less) }) (All-tail HoldsItems run tail h.held)) room
 
 -- what a lane keeps of its runs after one more was put
-pub put_more : {T : Type 0} (behind : T → ℕ → T) (runs : List (Run T)) (run : Run T) (put taken capacity room : ℕ)
-    → AreInLane behind runs put taken capacity room → 1 ≤ run.count → HasShortCount run → length (all_items behind runs) + run.count ≤ capacity
-    → AreInLane behind (runs ++ run ∷ []) (put + run.count) taken capacity room
-put_more behind runs run put taken capacity room h some is fits =
-    let more = ap length (items_more behind runs run) ∙ length-append (all_items behind runs) (items_of behind run) in
-    let here = length_run behind run in
+pub put_more : {S T : Type 0} (item_at : S → ℕ → T) (runs : List (Run S)) (run : Run S) (put taken capacity room : ℕ)
+    → AreInLane item_at runs put taken capacity room → 1 ≤ run.count → HasShortCount run → length (all_items item_at runs) + run.count ≤ capacity
+    → AreInLane item_at (runs ++ run ∷ []) (put + run.count) taken capacity room
+put_more item_at runs run put taken capacity room h some is fits =
+    let more = ap length (items_more item_at runs run) ∙ length-append (all_items item_at runs) (items_of item_at run) in
+    let here = length_run item_at run in
     let counts = h.counts in
     record {
       counts = omega (arith, more, here, counts);
@@ -189,10 +189,10 @@ put_more behind runs run put taken capacity room h some is fits =
     }
 
 -- there is room for one run more
-pub has_room : {T : Type 0} (behind : T → ℕ → T) (runs : List (Run T)) (put taken capacity room count : ℕ)
-    → AreInLane behind runs put taken capacity room → 1 ≤ count → length (all_items behind runs) + count ≤ capacity → length runs < room
-has_room behind runs put taken capacity room count h some fits =
-    let few = few_runs behind runs h.held in
+pub has_room : {S T : Type 0} (item_at : S → ℕ → T) (runs : List (Run S)) (put taken capacity room count : ℕ)
+    → AreInLane item_at runs put taken capacity room → 1 ≤ count → length (all_items item_at runs) + count ≤ capacity → length runs < room
+has_room item_at runs put taken capacity room count h some fits =
+    let few = few_runs item_at runs h.held in
     let same = h.same in
     omega (arith, few, same, some, fits)
 
@@ -202,10 +202,10 @@ with_value (Ok x) ok p = p
 with_value (Err e) ok p = absurd (cc)
 
 -- a run of nothing puts nothing
-pub none_put : {T : Type 0} (behind : T → ℕ → T) (lane : LaneState T) (run : Run T) → run.count ≤ 0 → lane ≡ with_put lane (items_of behind run)
-none_put behind lane run none =
+pub none_put : {S T : Type 0} (item_at : S → ℕ → T) (lane : LaneState T) (run : Run S) → run.count ≤ 0 → lane ≡ with_put lane (items_of item_at run)
+none_put item_at lane run none =
     let zero_count : run.count ≡ 0 = omega (arith, none) in
-    let no_items : items_of behind run ≡ [] = ap (λ n. map (item_at behind run.first) (range_with_len run.taken n)) zero_count in
+    let no_items : items_of item_at run ≡ [] = ap (λ n. map (item_at run.first) (range_with_len run.taken n)) zero_count in
     let sum : lane.put ≡ lane.put + 0 = omega arith in
     let same : lane ≡ with_put lane [] =
     ap (λ xs. record { items = xs; put = lane.put; taken = lane.taken; quota = lane.quota; capacity = lane.capacity }) (sym (append-nil lane.items))
@@ -213,14 +213,14 @@ none_put behind lane run none =
     same ∙ ap (with_put lane) (sym no_items)
 
 -- one run more is put
-pub run_put : {T : Type 0} (behind : T → ℕ → T) (runs more : List (Run T)) (run : Run T) (put taken quota capacity : ℕ) → more ≡ runs ++ run ∷ []
-    → record { items = all_items behind more; put = put + run.count; taken = taken; quota = quota; capacity = capacity }
-    ≡ with_put (record { items = all_items behind runs; put = put; taken = taken; quota = quota; capacity = capacity }) (items_of behind run)
-run_put behind runs more run put taken quota capacity e =
-    let items = ap (all_items behind) e ∙ items_more behind runs run in
-    let count = sym (length_run behind run) in
+pub run_put : {S T : Type 0} (item_at : S → ℕ → T) (runs more : List (Run S)) (run : Run S) (put taken quota capacity : ℕ) → more ≡ runs ++ run ∷ []
+    → record { items = all_items item_at more; put = put + run.count; taken = taken; quota = quota; capacity = capacity }
+    ≡ with_put (record { items = all_items item_at runs; put = put; taken = taken; quota = quota; capacity = capacity }) (items_of item_at run)
+run_put item_at runs more run put taken quota capacity e =
+    let items = ap (all_items item_at) e ∙ items_more item_at runs run in
+    let count = sym (length_run item_at run) in
     ap (λ xs. record { items = xs; put = put + run.count; taken = taken; quota = quota; capacity = capacity }) items
-    ∙ ap (λ n. record { items = all_items behind runs ++ items_of behind run; put = put + n; taken = taken; quota = quota; capacity = capacity }) count
+    ∙ ap (λ n. record { items = all_items item_at runs ++ items_of item_at run; put = put + n; taken = taken; quota = quota; capacity = capacity }) count
 
 -- a list with a first one is that one and the others
 pub first_and_rest : {X : Type 0} (xs : List X) (x : X) → slice_get xs 0 ≡ Some x → xs ≡ x ∷ drop 1 xs
@@ -228,11 +228,11 @@ first_and_rest [] x at = absurd (cc)
 first_and_rest (y ∷ xs) x at = let same : y ≡ x = cc in ap (λ z. z ∷ xs) same
 
 -- one step of the loop: the first run was taken out, and its front is moved
-module _ {T : Type 0} (behind : T → ℕ → T) (count : ℕ) (start : List (Run T)) (left : ℕ) (into runs : List (Run T)) (capacity : ℕ)
-    (h : Moving behind count start left into runs capacity) (some : 0 < left) (run front : Run T) (at : slice_get runs 0 ≡ Some run)
-    (is_front : front ≡ front_of left run) (into' : List (Run T)) (more : into' ≡ into ++ front ∷ []) where
-  parts : Moving behind count start left into (run ∷ drop 1 runs) capacity
-  parts = subst (λ xs. Moving behind count start left into xs capacity) (first_and_rest runs run at) h
+module _ {S T : Type 0} (item_at : S → ℕ → T) (count : ℕ) (start : List (Run S)) (left : ℕ) (into runs : List (Run S)) (capacity : ℕ)
+    (h : Moving item_at count start left into runs capacity) (some : 0 < left) (run front : Run S) (at : slice_get runs 0 ≡ Some run)
+    (is_front : front ≡ front_of left run) (into' : List (Run S)) (more : into' ≡ into ++ front ∷ []) where
+  parts : Moving item_at count start left into (run ∷ drop 1 runs) capacity
+  parts = subst (λ xs. Moving item_at count start left into xs capacity) (first_and_rest runs run at) h
 
   counted : front.count ≡ min run.count left
   counted = ap (λ f. f.count) is_front
@@ -257,28 +257,28 @@ module _ {T : Type 0} (behind : T → ℕ → T) (count : ℕ) (start : List (Ru
       let is = counted in
       omega (arith, one, some, is)
 
-  goes_whole : (runs' : List (Run T)) → run.count ≤ front.count → runs' ≡ drop 1 runs
-      → Moving behind count start (left - front.count) into' runs' capacity
+  goes_whole : (runs' : List (Run S)) → run.count ≤ front.count → runs' ≡ drop 1 runs
+      → Moving item_at count start (left - front.count) into' runs' capacity
   goes_whole runs' all is =
       let same = counted in
-      subst (λ xs. Moving behind count start (left - front.count) xs runs' capacity) (sym more)
-      (subst (λ xs. Moving behind count start (left - front.count) (into ++ front ∷ []) xs capacity) (sym is)
-      (subst (λ f. Moving behind count start (left - f.count) (into ++ f ∷ []) (drop 1 runs) capacity) (sym is_front)
-      (whole behind count start left into run (drop 1 runs) capacity parts some (omega (arith, same, all)))))
+      subst (λ xs. Moving item_at count start (left - front.count) xs runs' capacity) (sym more)
+      (subst (λ xs. Moving item_at count start (left - front.count) (into ++ front ∷ []) xs capacity) (sym is)
+      (subst (λ f. Moving item_at count start (left - f.count) (into ++ f ∷ []) (drop 1 runs) capacity) (sym is_front)
+      (whole item_at count start left into run (drop 1 runs) capacity parts some (omega (arith, same, all)))))
 
-  goes_parted : (runs' : List (Run T)) → front.count < run.count → runs' ≡ rest_of front.count run ∷ drop 1 runs
-      → Moving behind count start (left - front.count) into' runs' capacity
+  goes_parted : (runs' : List (Run S)) → front.count < run.count → runs' ≡ rest_of front.count run ∷ drop 1 runs
+      → Moving item_at count start (left - front.count) into' runs' capacity
   goes_parted runs' less is =
       let same = counted in
-      subst (λ xs. Moving behind count start (left - front.count) xs runs' capacity) (sym more)
-      (subst (λ xs. Moving behind count start (left - front.count) (into ++ front ∷ []) xs capacity) (sym is)
-      (subst (λ f. Moving behind count start (left - f.count) (into ++ f ∷ []) (rest_of f.count run ∷ drop 1 runs) capacity) (sym is_front)
-      (parted behind count start left into run (drop 1 runs) capacity parts some (omega (arith, same, less)))))
+      subst (λ xs. Moving item_at count start (left - front.count) xs runs' capacity) (sym more)
+      (subst (λ xs. Moving item_at count start (left - front.count) (into ++ front ∷ []) xs capacity) (sym is)
+      (subst (λ f. Moving item_at count start (left - f.count) (into ++ f ∷ []) (rest_of f.count run ∷ drop 1 runs) capacity) (sym is_front)
+      (parted item_at count start left into run (drop 1 runs) capacity parts some (omega (arith, same, less)))))
 
   -- either way some are left to move
-  pub goes_on : (runs' : List (Run T)) → (run.count ≤ front.count → runs' ≡ drop 1 runs)
+  pub goes_on : (runs' : List (Run S)) → (run.count ≤ front.count → runs' ≡ drop 1 runs)
       → (front.count < run.count → runs' ≡ rest_of front.count run ∷ drop 1 runs)
-      → Moving behind count start (left - front.count) into' runs' capacity
+      → Moving item_at count start (left - front.count) into' runs' capacity
   goes_on runs' whole_run parted_run =
       elim (leb_tells run.count front.count) [
         | inl all ↦ goes_whole runs' all.1 (whole_run all.1)
@@ -291,20 +291,20 @@ module _ {T : Type 0} (behind : T → ℕ → T) (count : ℕ) (start : List (Ru
       ]
 
 -- so many items may be moved out of a lane that holds at least as many
-pub may_move : {T : Type 0} (behind : T → ℕ → T) (runs : List (Run T)) (put taken capacity room count : ℕ)
-    → AreInLane behind runs put taken capacity room → count ≤ length (all_items behind runs) → MayMove behind count runs room
-may_move behind runs put taken capacity room count h enough =
-    let more = few_runs behind runs h.held in
+pub may_move : {S T : Type 0} (item_at : S → ℕ → T) (runs : List (Run S)) (put taken capacity room count : ℕ)
+    → AreInLane item_at runs put taken capacity room → count ≤ length (all_items item_at runs) → MayMove item_at count runs room
+may_move item_at runs put taken capacity room count h enough =
+    let more = few_runs item_at runs h.held in
     let few = h.few in
     let same = h.same in
     record { enough = enough; held = h.held; room = omega (arith, more, few, same) }
 
 -- what a lane keeps of the runs that are left
-pub lane_left : {T : Type 0} (behind : T → ℕ → T) (runs moved left : List (Run T)) (put taken capacity room room' count : ℕ)
-    → AreInLane behind runs put taken capacity room → count ≤ length (all_items behind runs) → MovesItems behind count runs moved left → room' ≡ room
-    → AreInLane behind left put (taken + count) capacity room'
-lane_left behind runs moved left put taken capacity room room' count h enough moves same =
-    let rest = ap length moves.behind_them ∙ length-drop count (all_items behind runs) in
+pub lane_left : {S T : Type 0} (item_at : S → ℕ → T) (runs moved left : List (Run S)) (put taken capacity room room' count : ℕ)
+    → AreInLane item_at runs put taken capacity room → count ≤ length (all_items item_at runs) → MovesItems item_at count runs moved left → room' ≡ room
+    → AreInLane item_at left put (taken + count) capacity room'
+lane_left item_at runs moved left put taken capacity room room' count h enough moves same =
+    let rest = ap length moves.behind_them ∙ length-drop count (all_items item_at runs) in
     let counts = h.counts in
     let few = h.few in
     record {
@@ -315,18 +315,18 @@ lane_left behind runs moved left put taken capacity room room' count h enough mo
     }
 
 -- runs were moved whole before the loop: up to the seam of the buffer, and behind it
-module _ {T : Type 0} (behind : T → ℕ → T) (count : ℕ) (runs : List (Run T)) (capacity k n : ℕ) (into into' runs' : List (Run T))
-    (may : MayMove behind count runs capacity) (few : count ≤ 32) (none : into ≡ [])
-    (first : AreWhole behind count runs k n) (more : into' ≡ into ++ take k runs) (rest : runs' ≡ drop k runs) where
-  pub up_to_the_seam : Moving behind count runs (count - n) into' runs' capacity
+module _ {S T : Type 0} (item_at : S → ℕ → T) (count : ℕ) (runs : List (Run S)) (capacity k n : ℕ) (into into' runs' : List (Run S))
+    (may : MayMove item_at count runs capacity) (few : count ≤ 32) (none : into ≡ [])
+    (first : AreWhole item_at count runs k n) (more : into' ≡ into ++ take k runs) (rest : runs' ≡ drop k runs) where
+  pub up_to_the_seam : Moving item_at count runs (count - n) into' runs' capacity
   up_to_the_seam =
-      subst (λ xs. Moving behind count runs (count - n) xs runs' capacity) (sym more)
-      (subst (λ xs. Moving behind count runs (count - n) (into ++ take k runs) xs capacity) (sym rest)
-      (moves_whole behind count runs count into runs capacity (begins behind count runs into capacity may few none) k n first))
+      subst (λ xs. Moving item_at count runs (count - n) xs runs' capacity) (sym more)
+      (subst (λ xs. Moving item_at count runs (count - n) (into ++ take k runs) xs capacity) (sym rest)
+      (moves_whole item_at count runs count into runs capacity (begins item_at count runs into capacity may few none) k n first))
 
-  pub behind_the_seam : (k' n' : ℕ) (into'' runs'' : List (Run T)) → AreWhole behind (count - n) runs' k' n' → into'' ≡ into' ++ take k' runs'
-      → runs'' ≡ drop k' runs' → Moving behind count runs (count - n - n') into'' runs'' capacity
+  pub behind_the_seam : (k' n' : ℕ) (into'' runs'' : List (Run S)) → AreWhole item_at (count - n) runs' k' n' → into'' ≡ into' ++ take k' runs'
+      → runs'' ≡ drop k' runs' → Moving item_at count runs (count - n - n') into'' runs'' capacity
   behind_the_seam k' n' into'' runs'' second more' rest' =
-      subst (λ xs. Moving behind count runs (count - n - n') xs runs'' capacity) (sym more')
-      (subst (λ xs. Moving behind count runs (count - n - n') (into' ++ take k' runs') xs capacity) (sym rest')
-      (moves_whole behind count runs (count - n) into' runs' capacity up_to_the_seam k' n' second))
+      subst (λ xs. Moving item_at count runs (count - n - n') xs runs'' capacity) (sym more')
+      (subst (λ xs. Moving item_at count runs (count - n - n') (into' ++ take k' runs') xs capacity) (sym rest')
+      (moves_whole item_at count runs (count - n) into' runs' capacity up_to_the_seam k' n' second))

@@ -1,3 +1,4 @@
 pub mod Points
 pub mod Runs
 pub mod Moves
+pub mod Groups

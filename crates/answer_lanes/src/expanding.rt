@@ -3,16 +3,16 @@ ghost use Rattle.tick_units.specs.Lane.{after_turn, turn_count};
 ghost use Rattle.answer_lanes.specs.Runs.{HoldsItems, all_items};
 
 use crate::lane::Lane;
-use crate::numbered::Numbered;
 use crate::run::Run;
+use crate::several::Several;
 use arrayvec::ArrayVec;
 
 /// Moves the first items of a lane, as many as its quota allows, into an empty list, each by itself. `runs` is room for
 /// the runs that they stand in.
-pub fn take_items<T: Numbered>(
-    lane: &mut Lane<T>,
-    runs: &mut ArrayVec<Run<T>, 32>,
-    into: &mut ArrayVec<T, 32>,
+pub fn take_items<S: Several>(
+    lane: &mut Lane<S>,
+    runs: &mut ArrayVec<Run<S>, 32>,
+    into: &mut ArrayVec<S::Item, 32>,
 )
     requires empty { (runs.old.items ≡ []) × (into.old.items ≡ []) }
     requires few { lane.old.quota ≤ 32 }
@@ -24,10 +24,10 @@ pub fn take_items<T: Numbered>(
 }
 
 // Puts the items of runs behind those in a list.
-fn put_items<T: Numbered>(runs: &[Run<T>], into: &mut ArrayVec<T, 32>)
+fn put_items<S: Several>(runs: &[Run<S>], into: &mut ArrayVec<S::Item, 32>)
     requires held { All HoldsItems runs.now }
-    requires room { length into.old.items + length (all_items T.behind runs.now) ≤ 32 }
-    ensures { into.new.items ≡ into.old.items ++ all_items T.behind runs.now }
+    requires room { length into.old.items + length (all_items S.item_at runs.now) ≤ 32 }
+    ensures { into.new.items ≡ into.old.items ++ all_items S.item_at runs.now }
 {
     for run in runs {
         run.put_all(into);

@@ -2,8 +2,8 @@ ghost use Rattle.std.specs.Prelude.{◌≡◌, ◌+◌, ◌≤◌, [], ◌∷◌
 ghost use Rattle.tick_units.specs.Lane.{HasRoom, after_turn, empty_lane, turn_count, with_put};
 ghost use Rattle.answer_lanes.specs.Runs.{HoldsItems, HasShortCount, all_items, items_of};
 
-use crate::numbered::Numbered;
 use crate::run::Run;
+use crate::several::Several;
 use crate::whole::{Whole, whole_runs};
 use arrayvec::ArrayVec;
 use circular_buffer::HeapCircularBuffer;
@@ -15,34 +15,34 @@ use tick_units::NoMemory;
 /// the taker moves at most its quota. It counts the items that were ever put and taken. Contracts see it as its items,
 /// the oldest first, with both counts, quota and capacity.
 #[derive(Drop)]
-pub struct Lane<T: Numbered> {
-    runs: HeapCircularBuffer<Run<T>>,
+pub struct Lane<S: Several> {
+    runs: HeapCircularBuffer<Run<S>>,
     quota: usize,
     capacity: usize,
     put: u64,
     taken: u64,
 }
 
-impl<T: Numbered> Model for Lane<T> {
+impl<S: Several> Model for Lane<S> {
     ghost use Rattle.tick_units.specs.Lane.{LaneState};
     ghost use Rattle.answer_lanes.specs.Runs.{AreInLane, all_items};
 
-    ghost Value = { LaneState T };
+    ghost Value = { LaneState S.Item };
 
     ghost view = { λ l. record {
-      items = all_items T.behind l.runs.items;
+      items = all_items S.item_at l.runs.items;
       put = l.put;
       taken = l.taken;
       quota = l.quota;
       capacity = l.capacity;
     } };
 
-    ghost invariant = { λ l. AreInLane T.behind l.runs.items l.put l.taken l.capacity l.runs.capacity };
+    ghost invariant = { λ l. AreInLane S.item_at l.runs.items l.put l.taken l.capacity l.runs.capacity };
 }
 
-impl<T: Numbered> Lane<T> {
+impl<S: Several> Lane<S> {
     /// An empty lane. This takes the memory for all that it may ever hold.
-    pub fn new(alloc: Global, quota: usize, capacity: usize) -> Result<Lane<T>, NoMemory>
+    pub fn new(alloc: Global, quota: usize, capacity: usize) -> Result<Lane<S>, NoMemory>
         ensures { IfOk result (λ l. l ≡ empty_lane quota capacity) }
     {
         let runs = HeapCircularBuffer::with_capacity(alloc, capacity)?;
@@ -56,7 +56,7 @@ impl<T: Numbered> Lane<T> {
     }
 
     /// Puts an item at the end. At most 2^40 are ever put.
-    pub fn put(&mut self, item: T)
+    pub fn put(&mut self, item: S::Item)
         requires { HasRoom self.old 1 }
         ensures { self.new ≡ with_put self.old (item ∷ []) }
     {
@@ -64,10 +64,10 @@ impl<T: Numbered> Lane<T> {
     }
 
     /// Puts the items of a run at the end.
-    pub fn put_run(&mut self, run: Run<T>)
+    pub fn put_run(&mut self, run: Run<S>)
         requires room { HasRoom self.old run.count }
         requires run { HasShortCount run }
-        ensures { self.new ≡ with_put self.old (items_of T.behind run) }
+        ensures { self.new ≡ with_put self.old (items_of S.item_at run) }
     {
         if run.count > 0 {
             let _room = self.runs.try_push_back(run);
@@ -76,10 +76,10 @@ impl<T: Numbered> Lane<T> {
     }
 
     /// Moves the first items, as many as the quota allows, into an empty list.
-    pub fn take_turn(&mut self, into: &mut ArrayVec<Run<T>, 32>)
+    pub fn take_turn(&mut self, into: &mut ArrayVec<Run<S>, 32>)
         requires empty { into.old.items ≡ [] }
         requires few { self.old.quota ≤ 32 }
-        ensures moved { all_items T.behind into.new.items
+        ensures moved { all_items S.item_at into.new.items
             ≡ take (turn_count self.old) self.old.items }
         ensures held { All HoldsItems into.new.items }
         ensures rest { self.new ≡ after_turn self.old }
@@ -118,15 +118,15 @@ ghost use Rattle.answer_lanes.specs.Runs.{rest_of};
 ghost use Rattle.answer_lanes.specs.Moves.{AreWhole, MayMove, MovesItems};
 
 // Moves the first items of the runs of a lane into an empty list. The last run that is moved may be parted.
-fn move_runs<T: Numbered>(
-    runs: &mut HeapCircularBuffer<Run<T>>,
-    into: &mut ArrayVec<Run<T>, 32>,
+fn move_runs<S: Several>(
+    runs: &mut HeapCircularBuffer<Run<S>>,
+    into: &mut ArrayVec<Run<S>, 32>,
     count: u8,
 )
     requires empty { into.old.items ≡ [] }
     requires few { count ≤ 32 }
-    requires may { MayMove T.behind count runs.old.items runs.old.capacity }
-    ensures moves { MovesItems T.behind count runs.old.items into.new.items runs.new.items }
+    requires may { MayMove S.item_at count runs.old.items runs.old.capacity }
+    ensures moves { MovesItems S.item_at count runs.old.items into.new.items runs.new.items }
     ensures same { runs.new.capacity ≡ runs.old.capacity }
 {
     // Where the runs wrap round, the second call moves those behind the seam.
@@ -146,7 +146,7 @@ fn move_runs<T: Numbered>(
 }
 
 // Puts what is left of a run, of which so many items were taken, back to the front of a lane.
-fn put_back<T: Numbered>(runs: &mut HeapCircularBuffer<Run<T>>, run: &Run<T>, taken: u8)
+fn put_back<S: Several>(runs: &mut HeapCircularBuffer<Run<S>>, run: &Run<S>, taken: u8)
     requires run { HasShortCount run.now }
     requires room { length runs.old.items < runs.old.capacity }
     ensures whole { run.now.count ≤ taken → runs.new ≡ runs.old }
@@ -161,14 +161,14 @@ fn put_back<T: Numbered>(runs: &mut HeapCircularBuffer<Run<T>>, run: &Run<T>, ta
 
 // Moves runs that lie behind one another from the front of a lane behind those in a list, while their items are few
 // enough.
-fn move_whole<T: Numbered>(
-    runs: &mut HeapCircularBuffer<Run<T>>,
-    into: &mut ArrayVec<Run<T>, 32>,
+fn move_whole<S: Several>(
+    runs: &mut HeapCircularBuffer<Run<S>>,
+    into: &mut ArrayVec<Run<S>, 32>,
     most: u8,
 ) -> Whole
     requires held { All HoldsItems runs.old.items }
     requires room { length into.old.items + most ≤ 32 }
-    ensures whole { AreWhole T.behind most runs.old.items result.runs result.items }
+    ensures whole { AreWhole S.item_at most runs.old.items result.runs result.items }
     ensures moved { into.new.items ≡ into.old.items ++ take result.runs runs.old.items }
     ensures rest { runs.new.items ≡ drop result.runs runs.old.items }
     ensures same { runs.new.capacity ≡ runs.old.capacity }

@@ -1,19 +1,25 @@
 //! The lanes that join Poll, Decide and Hold: queues whose items stand in runs.
 //!
-//! A [`Run`] holds items that say the same of points whose places follow one another, as the answers of points that all
-//! are quiet. So a turn looks at what is new, and not at each point. Contracts see a [`Lane`] as the list of its
-//! items, the oldest first, however they stand in runs. [`Run::one`] is an item by itself.
+//! A [`Run`] holds items of points whose places follow one another: the answers of an [`AnswerGroup`], or the findings
+//! of a [`FindingGroup`]. So a turn looks at what is new, and not at each point. Contracts see a [`Lane`] as the list
+//! of its items, the oldest first, however they stand in runs. [`Run::one`] is an item by itself.
 //!
 //! [`Lane::new`] alone takes memory.
 #![tactic(auto)]
 
+mod answer_group;
 mod expanding;
+mod finding_group;
+mod finding_run;
 mod lane;
-mod numbered;
+mod mask_bits;
 mod run;
+mod several;
 mod whole;
 
+pub use answer_group::AnswerGroup;
 pub use expanding::take_items;
+pub use finding_group::FindingGroup;
 pub use lane::Lane;
-pub use numbered::Numbered;
 pub use run::Run;
+pub use several::Several;

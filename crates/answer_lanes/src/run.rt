@@ -1,48 +1,45 @@
-ghost use Rattle.std.specs.Prelude.{◌≡◌, ◌≤◌, ◌+◌, ◌++◌, length};
-ghost use Rattle.answer_lanes.specs.Runs.{HasShortCount, front_of, item_at, items_of, one_item, rest_of};
+ghost use Rattle.std.specs.Prelude.{◌≡◌, ◌≤◌, ◌+◌, ◌++◌, [], ◌∷◌, length};
+ghost use Rattle.answer_lanes.specs.Runs.{HasShortCount, front_of, items_of, rest_of};
 
-use crate::numbered::Numbered;
+use crate::several::Several;
 use arrayvec::ArrayVec;
 
-/// Items that say the same of points whose places follow one another.
+/// Items of points whose places follow one another.
 #[derive(Clone, Copy, Debug, Default)]
-pub struct Run<T: Copy> {
-    /// What was said of the point at which the run began.
-    pub first: T,
+pub struct Run<S: Copy> {
+    /// What tells each item, by its place behind the first one.
+    pub first: S,
     /// How many of its items were taken already.
     pub taken: u8,
     /// How many are left.
     pub count: u8,
 }
 
-impl<T: Numbered> Run<T> {
+impl<S: Several> Run<S> {
     /// An item by itself.
-    pub fn one(item: T) -> Run<T>
-        ensures { result ≡ one_item item }
+    pub fn one(item: S::Item) -> Run<S>
+        ensures items { items_of S.item_at result ≡ item ∷ [] }
+        ensures short { (result.taken ≡ 0) × (result.count ≡ 1) }
     {
         Run {
-            first: item,
+            first: S::one(item),
             taken: 0,
             count: 1,
         }
     }
 
     /// The item at a place of the run as it began.
-    pub fn item(&self, place: u8) -> T
-        ensures { result ≡ item_at T.behind self.now.first place }
+    pub fn item(&self, place: u8) -> S::Item
+        ensures { result ≡ S.item_at self.now.first place }
     {
-        if place == 0 {
-            self.first
-        } else {
-            self.first.behind_by(place)
-        }
+        self.first.item_at(place)
     }
 
     // Puts its items behind those in a list.
-    pub(crate) fn put_all(&self, into: &mut ArrayVec<T, 32>)
+    pub(crate) fn put_all(&self, into: &mut ArrayVec<S::Item, 32>)
         requires run { HasShortCount self.now }
         requires room { length into.old.items + self.now.count ≤ 32 }
-        ensures { into.new.items ≡ into.old.items ++ items_of T.behind self.now }
+        ensures { into.new.items ≡ into.old.items ++ items_of S.item_at self.now }
     {
         for place in self.taken..self.taken + self.count {
             let _room = into.try_push(self.item(place));
@@ -50,7 +47,7 @@ impl<T: Numbered> Run<T> {
     }
 
     // Its first items, at most so many.
-    pub(crate) fn front(&self, most: u8) -> Run<T>
+    pub(crate) fn front(&self, most: u8) -> Run<S>
         ensures { result ≡ front_of most self.now }
     {
         Run {
@@ -61,7 +58,7 @@ impl<T: Numbered> Run<T> {
     }
 
     // What is left of it behind so many items.
-    pub(crate) fn rest(&self, items: u8) -> Run<T>
+    pub(crate) fn rest(&self, items: u8) -> Run<S>
         requires run { HasShortCount self.now }
         requires within { items ≤ self.now.count }
         ensures { result ≡ rest_of items self.now }

@@ -1,7 +1,7 @@
 ghost use Rattle.answer_lanes.specs.Moves.{AreWhole};
 
-use crate::numbered::Numbered;
 use crate::run::Run;
+use crate::several::Several;
 
 /// The runs at the front of others that may be moved whole.
 #[derive(Clone, Copy)]
@@ -13,8 +13,8 @@ pub(crate) struct Whole {
 }
 
 // The first runs that hold at most so many items together.
-pub(crate) fn whole_runs<T: Numbered>(runs: &[Run<T>], most: u8) -> Whole
-    ensures { AreWhole T.behind most runs.now result.runs result.items }
+pub(crate) fn whole_runs<S: Several>(runs: &[Run<S>], most: u8) -> Whole
+    ensures { AreWhole S.item_at most runs.now result.runs result.items }
 {
     let mut whole = Whole { runs: 0, items: 0 };
     for run in runs {

@@ -1,6 +1,6 @@
 ghost use Rattle.std.specs.Prelude.{◌≤◌, IfOk};
 
-use answer_lanes::Lane;
+use answer_lanes::{FindingGroup, Lane};
 use panel_conditions::{Finding, Hold, Outside};
 use site_types::{
     Buzzer, Item, Label, Operation, Point, PointSet, Retained, Rule, Site, Waits, Zone,
@@ -61,7 +61,7 @@ struct Row {
     want: (u32, u32, Buzzer, u64, bool),
 }
 
-fn lane_of(alloc: Global, taken: Option<Finding>) -> Result<Lane<Finding>, Fail>
+fn lane_of(alloc: Global, taken: Option<Finding>) -> Result<Lane<FindingGroup>, Fail>
     ensures { IfOk result (λ lane. lane.quota ≤ 32) }
 {
     let mut lane = Lane::new(alloc, 32, 64)?;
@@ -74,7 +74,7 @@ fn lane_of(alloc: Global, taken: Option<Finding>) -> Result<Lane<Finding>, Fail>
     }
 }
 
-fn step(hold: &mut Hold, row: &Row, findings: &mut Lane<Finding>)
+fn step(hold: &mut Hold, row: &Row, findings: &mut Lane<FindingGroup>)
     requires { findings.old.quota ≤ 32 }
 {
     hold.turn(Tick(row.tick), findings, &row.outside);

@@ -1,21 +1,22 @@
 ghost use Rattle.std.specs.Prelude.{◌≡◌};
 
-use answer_lanes::{Lane, Run, take_items};
+use answer_lanes::{AnswerGroup, Lane, Run, take_items};
 use arrayvec::ArrayVec;
-use site_types::{Answer, Heard};
+use site_types::Answer;
 use std::process::Abort;
 use std::test::Fail;
 use tick_units::Tick;
 
 // The quiet answers of so many points, from this one on.
-fn quiet(first: u16, count: u8) -> Run<Answer>
+fn quiet(first: u16, count: u8) -> Run<AnswerGroup>
     ensures { (result.taken ≡ 0) × (result.count ≡ count) }
 {
     Run {
-        first: Answer {
+        first: AnswerGroup {
             stamp: Tick(1),
             point: first,
-            heard: Heard::Quiet,
+            alarms: 0,
+            silents: 0,
         },
         taken: 0,
         count,
@@ -28,7 +29,7 @@ fn a_full_lane_is_emptied_in_two_turns(rt: HostRuntime) -> Result<(), Fail> {
     lane.put_run(quiet(0, 24));
     lane.put_run(quiet(24, 24));
     lane.put_run(quiet(48, 15));
-    lane.put(quiet(63, 1).first);
+    lane.put(quiet(63, 1).item(0));
     for turn in 0..3 {
         let mut runs = ArrayVec::new();
         let mut taken: ArrayVec<Answer, 32> = ArrayVec::new();

@@ -138,10 +138,10 @@ module _ (site : Site) (kept : Retained) (done : List Done) (at : Tick) (panel :
 -- each part is what the operation makes of it
 pub record IsAfter (at : Tick) (panel : ℕ) (operation : Operation) (old next : Decide) : Type 0 where
   pub same_panel : next.panel ≡ old.panel
-  pub point_count : length next.points.items ≡ length old.points.items
+  pub point_count : length next.points ≡ length old.points
   pub zone_count : length next.zones.items ≡ length old.zones.items
-  pub points : (place : ℕ) (watch : PointWatch) → slice_get next.points.items place ≡ Some watch
-      → (was : PointWatch) × (slice_get old.points.items place ≡ Some was) × (watch ≡ point_then at panel operation place was)
+  pub points : (place : ℕ) (watch : PointWatch) → slice_get next.points place ≡ Some watch
+      → (was : PointWatch) × (slice_get old.points place ≡ Some was) × (watch ≡ point_then at panel operation place was)
   pub zones : (place : ℕ) (watch : ZoneWatch) → slice_get next.zones.items place ≡ Some watch
       → (was : ZoneWatch) × (slice_get old.zones.items place ≡ Some was) × (watch ≡ zone_then at panel operation place was)
   pub reset : next.reset ≡ last_if (resets panel (done_now at panel operation)) at old.reset
@@ -193,11 +193,11 @@ zone_since {panel = panel} {done = done} {decide = decide} stands operation at m
 
 pub point_since : {site : Site} {kept : Retained} {panel : ℕ} {done : List Done} {taken : List Answer} {decide : Decide}
     → DecidesFor site kept panel done taken decide → (operation : Operation) (at : Tick) → MayApply site panel done taken operation at.0
-    → (place : ℕ) → IsOwn site panel place → (watch : PointWatch) → watch ≡ get_or decide.points.items place watch
+    → (place : ℕ) → IsOwn site panel place → (watch : PointWatch) → watch ≡ get_or decide.points place watch
     → (is_on (PointOff place) (done_now at panel operation) ≡ true) → watch.off.since.0 < at.0
 point_since {panel = panel} {done = done} {decide = decide} stands operation at may place own watch e on =
     let w = watched stands place own in
-    let same : watch ≡ w.watch = read_is decide.points.items place watch w.watch e w.is_watch in
+    let same : watch ≡ w.watch = read_is decide.points place watch w.watch e w.is_watch in
     subst (λ (o : PointWatch). o.off.since.0 < at.0) (sym same)
     (subst (λ n. n < at.0) (sym w.watches.off.since)
     (set_before at.0 (PointOff place) done may.next.from_one may.next.since (may.next.once (PointOff place) on)))

@@ -68,7 +68,7 @@ module _ (site : Site) (kept : Retained) where
     recent = λ point. refl;
   }
 
-  pub stands_begun : IsValid site → (panel : ℕ) (decide : Decide) → decide.panel ≡ panel → decide.points.items ≡ map (point_from kept) site.points
+  pub stands_begun : IsValid site → (panel : ℕ) (decide : Decide) → decide.panel ≡ panel → decide.points ≡ map (point_from kept) site.points
       → decide.zones.items ≡ map (zone_from kept) site.zones → decide.reset ≡ never_done
       → DecidesFor site kept panel [] [] decide
   stands_begun valid panel decide at points zones reset = record {

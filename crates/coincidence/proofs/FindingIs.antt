@@ -49,7 +49,7 @@ same_finding stamp point c d f g m n r q a b e1 e2 e3 e4 e5 = cc
 
 module _ {site : Site} {kept : Retained} {panel : ℕ} {done : List Done} {all : List Answer} {decide : Decide} (stands :
     DecidesFor site kept panel done all decide) (answer : Answer) (fits : Fits site panel done all answer)
-    (r : PointWatch) (z : ZoneWatch) (e : r ≡ get_or decide.points.items answer.point r) (h : z ≡ get_or decide.zones.items r.zone z) (seen :
+    (r : PointWatch) (z : ZoneWatch) (e : r ≡ get_or decide.points answer.point r) (h : z ≡ get_or decide.zones.items r.zone z) (seen :
     Observation) (found : PartnerFinding) where
   abbrev w : Watched site kept panel done all decide answer.point
   w = watched stands answer.point fits.own
@@ -133,7 +133,7 @@ module _ {site : Site} {kept : Retained} {panel : ℕ} {done : List Done} {all :
       found.number found.released w.zone.partner released l (second_released observes w.zone.partner refl partner)
       (λ q apart x. none_released site kept done all answer w.point w.zone seen stands.wired w.is_point w.is_zone stands.order fits.late observes q apart
       x) (own_bits released (own_released z.rule seen) found.number found.released ls))
-      (miss ∙ ap (λ (o : PointWatch). nat_le missing_askings o.silent) (read_is decide.points.items answer.point r w.watch e w.is_watch) ∙ sym
+      (miss ∙ ap (λ (o : PointWatch). nat_le missing_askings o.silent) (read_is decide.points answer.point r w.watch e w.is_watch) ∙ sym
       (w.watches.silent missing_askings (omega arith)))
 
 -- what counts confirms a plain zone
@@ -145,7 +145,7 @@ counts_plain true true = refl
 -- the finding of an alarm in a zone that each alarm that counts confirms and releases by itself
 pub plain_finding_is : {site : Site} {kept : Retained} {panel : ℕ} {done : List Done} {all : List Answer} {decide : Decide}
     (stands : DecidesFor site kept panel done all decide) (answer : Answer) (fits : Fits site panel done all answer)
-    (r : PointWatch) (z : ZoneWatch) (e : r ≡ get_or decide.points.items answer.point r) (h : z ≡ get_or decide.zones.items r.zone z)
+    (r : PointWatch) (z : ZoneWatch) (e : r ≡ get_or decide.points answer.point r) (h : z ≡ get_or decide.zones.items r.zone z)
     (judgement : Judgement) → Judges site kept done answer judgement → z.rule ≡ Plain → z.partner ≡ None → (told manual : ℕ) (missing : Bool)
     → told < 2 ^ 32 → manual < 2 ^ 32 → HasBit told z.number judgement.counted → HasBit manual z.number (judgement.counted && r.manual)
     → missing ≡ nat_le missing_askings r.silent
@@ -210,7 +210,7 @@ no_release site kept done all q answer (Some C) uncounted =
 
 pub quiet_is : {site : Site} {kept : Retained} {panel : ℕ} {done : List Done} {all : List Answer} {decide : Decide}
     → DecidesFor site kept panel done all decide → (answer : Answer) → Fits site panel done all answer → is_alarm answer.heard ≡ false →
-    (r : PointWatch) → r ≡ get_or decide.points.items answer.point r → (missing : Bool) → missing ≡ nat_le missing_askings r.silent →
+    (r : PointWatch) → r ≡ get_or decide.points answer.point r → (missing : Bool) → missing ≡ nat_le missing_askings r.silent →
     ◌≡◌ {A = Finding} (record { stamp = answer.stamp; point = answer.point; counted = 0; confirmed = 0; manual = 0; released = 0; missing = missing })
     (finding_among site kept panel done all answer)
 quiet_is {site} {kept} {panel} {done} {all} {decide} stands answer fits quiet r e missing miss =
@@ -223,5 +223,5 @@ quiet_is {site} {kept} {panel} {done} {all} {decide} stands answer fits quiet r 
     (no_mask site panel (λ q. calls site kept done q answer) (λ q. ap (λ b. b && is_by_call_point site q answer.point) uncounted))
     (no_mask site panel (λ q. releases site kept done all q answer)
     (λ q. no_release site kept done all q answer (rule_of (slice_get site.zones q)) uncounted))
-    (miss ∙ ap (λ (o : PointWatch). nat_le missing_askings o.silent) (read_is decide.points.items answer.point r w.watch e w.is_watch) ∙ sym
+    (miss ∙ ap (λ (o : PointWatch). nat_le missing_askings o.silent) (read_is decide.points answer.point r w.watch e w.is_watch) ∙ sym
     (w.watches.silent missing_askings (omega arith)))

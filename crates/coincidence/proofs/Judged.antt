@@ -81,13 +81,13 @@ module _ {site : Site} {kept : Retained} {panel : ℕ} {done : List Done} {taken
       (λ d. sym (floor_parts zone d.panel panel (Some plan) d.operation (ap (λ n. d.panel == n) at) site is))
 
   pub counted_is : (answer : Answer) (fits : Fits site panel done taken answer) (r : PointWatch) (z : ZoneWatch)
-      → r ≡ get_or decide.points.items answer.point r → z ≡ get_or decide.zones.items r.zone z
+      → r ≡ get_or decide.points answer.point r → z ≡ get_or decide.zones.items r.zone z
       → (is_alarm answer.heard && not (switch_at answer.stamp.0 r.off || (switch_at answer.stamp.0 z.off || switch_at answer.stamp.0 z.test)))
       ≡ is_counted site kept done answer
   counted_is answer fits r z e h =
       let x = answer.stamp.0 in
       let w = watched stands answer.point fits.own in
-      let same : r ≡ w.watch = read_is decide.points.items answer.point r w.watch e w.is_watch in
+      let same : r ≡ w.watch = read_is decide.points answer.point r w.watch e w.is_watch in
       let zone_watch : z ≡ w.zone_watch = zone_watch_read stands answer.point fits.own r z e h in
       let point =
       ap (λ (o : PointWatch). switch_at x o.off) same ∙ sym

@@ -8,7 +8,9 @@ pub mod ConfirmedZones
 pub mod Masked
 pub mod FindingIs
 pub mod TakenAnswer
+pub mod PlainAlarms
 pub mod Turned
+pub mod PlaceSets
 pub mod Resting
 pub mod RunItems
 -- operations: what is kept after one, by its kind, and that those of other panels change nothing

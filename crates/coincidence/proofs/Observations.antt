@@ -34,30 +34,30 @@ module _ {site : Site} {kept : Retained} {panel : ℕ} {done : List Done} {taken
       let zoned = stands.wired.zoned answer.point point is_point in
       ap (λ (z : ZonePlan). z.panel) (same_Some zone zoned.zone (sym is_zone ∙ zoned.is)) ∙ zoned.at_panel ∙ point_at
 
-  watch_of : (r : PointWatch) → r ≡ get_or decide.points.items answer.point r → WatchesPoint site kept done taken answer.point point r
+  watch_of : (r : PointWatch) → r ≡ get_or decide.points answer.point r → WatchesPoint site kept done taken answer.point point r
   watch_of r e =
       let w = watched stands answer.point fits.own in
-      subst (WatchesPoint site kept done taken answer.point point) (sym (read_is decide.points.items answer.point r w.watch e w.is_watch))
+      subst (WatchesPoint site kept done taken answer.point point) (sym (read_is decide.points answer.point r w.watch e w.is_watch))
       (stands.points answer.point w.watch point w.is_watch is_point point_at)
 
-  pub zone_of_read : (r : PointWatch) → r ≡ get_or decide.points.items answer.point r → r.zone ≡ point.zone
+  pub zone_of_read : (r : PointWatch) → r ≡ get_or decide.points answer.point r → r.zone ≡ point.zone
   zone_of_read r e = (watch_of r e).zone
 
-  pub zone_there : (r : PointWatch) → r ≡ get_or decide.points.items answer.point r → slice_get site.zones r.zone ≡ Some zone
+  pub zone_there : (r : PointWatch) → r ≡ get_or decide.points answer.point r → slice_get site.zones r.zone ≡ Some zone
   zone_there r e = ap (slice_get site.zones) (zone_of_read r e) ∙ is_zone
 
-  zone_watch_of : (r : PointWatch) (z : ZoneWatch) → r ≡ get_or decide.points.items answer.point r → z ≡ get_or decide.zones.items r.zone z
+  zone_watch_of : (r : PointWatch) (z : ZoneWatch) → r ≡ get_or decide.points answer.point r → z ≡ get_or decide.zones.items r.zone z
       → WatchesZone site kept done taken point.zone zone z
   zone_watch_of r z e h =
       let wz = watched_zone stands point.zone zone is_zone zone_at in
       subst (WatchesZone site kept done taken point.zone zone)
       (sym (read_is decide.zones.items r.zone z wz.zone_watch h (ap (slice_get decide.zones.items) (zone_of_read r e) ∙ wz.is_zone_watch))) wz.watches
 
-  pub own_partner_read : (r : PointWatch) (z : ZoneWatch) → r ≡ get_or decide.points.items answer.point r → z ≡ get_or decide.zones.items r.zone z
+  pub own_partner_read : (r : PointWatch) (z : ZoneWatch) → r ≡ get_or decide.points answer.point r → z ≡ get_or decide.zones.items r.zone z
       → IsOwnPartner site panel z.partner
   own_partner_read r z e h = partner_own stands point.zone zone is_zone zone_at z.partner (sym (zone_watch_of r z e h).partner)
 
-  pub observes_read : (r : PointWatch) (z : ZoneWatch) → r ≡ get_or decide.points.items answer.point r → z ≡ get_or decide.zones.items r.zone z
+  pub observes_read : (r : PointWatch) (z : ZoneWatch) → r ≡ get_or decide.points answer.point r → z ≡ get_or decide.zones.items r.zone z
       → (judgement : Judgement) (own_second partner_second : Option Tick) → Judges site kept done answer judgement
       → own_second ≡ second_of site kept done taken r.zone zone.rule answer
       → partner_second ≡ partner_second_of site kept done taken z.partner answer
@@ -103,7 +103,7 @@ module _ {site : Site} {kept : Retained} {panel : ℕ} {done : List Done} {taken
 -- what the operations say of an answer, by the point that is read
 module _ {site : Site} {kept : Retained} {panel : ℕ} {done : List Done} {taken : List Answer} {decide : Decide} (stands :
     DecidesFor site kept panel done taken decide) (answer : Answer) (fits : Fits site panel done taken answer) (r : PointWatch)
-    (e : r ≡ get_or decide.points.items answer.point r) where
+    (e : r ≡ get_or decide.points answer.point r) where
   zone_is : (point : PointPlan) → slice_get site.points answer.point ≡ Some point → r.zone ≡ point.zone
   zone_is point is =
       let w = watched stands answer.point fits.own in

@@ -33,7 +33,7 @@ abbrev with_zone : Decide → ℕ → ZoneWatch → Decide
 with_zone decide z y = record decide { zones = with_item decide.zones z y }
 
 abbrev with_point : Decide → ℕ → PointWatch → Decide
-with_point decide p y = record decide { points = with_item decide.points p y }
+with_point decide p y = record decide { points = set decide.points p y }
 
 -- after a write each item is what is made of the item that stood there, where nothing is made of the others
 written : {X : Type 0} (xs : List X) (i : ℕ) (x y : X) (change : ℕ → X → X) → i < length xs → x ≡ get_or xs i x → y ≡ change i x
@@ -103,14 +103,14 @@ module _ (at : Tick) (panel : ℕ) (operation : Operation) where
       reset = sym (ap (λ b. last_if b at decide.reset) h.no_reset);
     }
 
-    point_after : (p : ℕ) (x y : PointWatch) (change : Bool → PointWatch → PointWatch) → ChangesPoint p change → p < length decide.points.items
-        → x ≡ get_or decide.points.items p x → y ≡ change true x → IsAfter at panel operation decide (with_point decide p y)
+    point_after : (p : ℕ) (x y : PointWatch) (change : Bool → PointWatch → PointWatch) → ChangesPoint p change → p < length decide.points
+        → x ≡ get_or decide.points p x → y ≡ change true x → IsAfter at panel operation decide (with_point decide p y)
     point_after p x y change h small read new = record {
       same_panel = refl;
-      point_count = length-set decide.points.items p y;
+      point_count = length-set decide.points p y;
       zone_count = refl;
       points =
-          written decide.points.items p x y (point_then at panel operation) small read
+          written decide.points p x y (point_then at panel operation) small read
           (new ∙ sym (h.is p x ∙ ap (λ b. change b x) (eq-eqb p p refl)))
           (λ k w apart. h.is k w ∙ ap (λ b. change b w) (ne_eqb k p apart) ∙ h.nothing w);
       zones = λ place watch there. (watch, there, sym (h.zones place watch));
@@ -211,7 +211,7 @@ module _ {site : Site} {kept : Retained} {panel : ℕ} {done : List Done} {taken
   pub own_small : (z : ℕ) → IsOwnZone site panel z → z < length decide.zones.items
   own_small z own = subst (λ n. z < n) (sym stands.zone_count) (get_small site.zones z own.zone own.is)
 
-  own_point_small : (p : ℕ) → IsOwn site panel p → p < length decide.points.items
+  own_point_small : (p : ℕ) → IsOwn site panel p → p < length decide.points
   own_point_small p own = subst (λ n. p < n) (sym stands.point_count) (get_small site.points p own.point own.is)
 
   -- the operation as it is read
@@ -271,12 +271,12 @@ module _ {site : Site} {kept : Retained} {panel : ℕ} {done : List Done} {taken
         both true = refl
         both false = refl
 
-    pub point_off_stands : (p : ℕ) (x y : PointWatch) → item ≡ Point p → x ≡ get_or decide.points.items p x
-        → y ≡ record x { off = switch_after off at x.off } → StandsOff (with_point decide p y)
-    point_off_stands p x y e read new =
+    pub point_off_stands : (p : ℕ) (x : PointWatch) → item ≡ Point p → x ≡ get_or decide.points p x
+        → StandsOff (with_point decide p (record x { off = switch_after off at x.off }))
+    point_off_stands p x e read =
         as_read (off_operation off item) (off_operation off (Point p)) _ (ap (off_operation off) e) may
-        (λ m. point_after at panel (off_operation off (Point p)) decide p x y (point_off_if at off) (point_off_changes at panel p off)
-        (own_point_small p (own_point_off site panel off p m.own)) read new)
+        (λ m. point_after at panel (off_operation off (Point p)) decide p x _ (point_off_if at off) (point_off_changes at panel p off)
+        (own_point_small p (own_point_off site panel off p m.own)) read refl)
 
     pub output_off_stands : (output : ℕ) → item ≡ Output output → StandsOff decide
     output_off_stands output e =

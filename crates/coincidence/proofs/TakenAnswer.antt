@@ -34,7 +34,7 @@ use Rattle.coincidence.specs.Premises.{IsOwn, MayTake}
 use Rattle.coincidence.proofs.Watched.{read_is, Watched, watched, zone_read, zone_watch_read}
 
 -- one more answer: the newest first, the run, the latest of another point
-latest_more : (point : ℕ) (xs : List Answer) (x : Answer)
+pub latest_more : (point : ℕ) (xs : List Answer) (x : Answer)
     → latest_of point (xs ++ x ∷ []) ≡ (if x.point == point then x ∷ latest_of point xs else latest_of point xs)
 latest_more point xs x =
     ap reverse (filter-append (λ a. a.point == point) xs (x ∷ [])) ∙ reverse-append (filter (λ a. a.point == point) xs)
@@ -202,7 +202,7 @@ module _ {site : Site} {kept : Retained} {done : List Done} {taken : List Answer
 
 module _ {site : Site} {kept : Retained} {panel : ℕ} {done : List Done} {taken : List Answer} {decide : Decide} (stands :
     DecidesFor site kept panel done taken decide) (answer : Answer) (may : MayTake site panel done taken (answer ∷ []))
-    (r : PointWatch) (z : ZoneWatch) (e : r ≡ get_or decide.points.items answer.point r) (h : z ≡ get_or decide.zones.items r.zone z) (counted :
+    (r : PointWatch) (z : ZoneWatch) (e : r ≡ get_or decide.points answer.point r) (h : z ≡ get_or decide.zones.items r.zone z) (counted :
     Bool) (floor : Tick) where
   abbrev own : IsOwn site panel answer.point
   own = may.own 0 answer refl
@@ -223,7 +223,7 @@ module _ {site : Site} {kept : Retained} {panel : ℕ} {done : List Done} {taken
   -- the test that the code makes is whether the answer may make a pair
   pairs_is : counted ≡ is_counted site kept done answer → pairs ≡ may_pair site kept done w.point.zone w.zone.rule answer
   pairs_is c =
-      let point : r ≡ w.watch = read_is decide.points.items answer.point r w.watch e w.is_watch in
+      let point : r ≡ w.watch = read_is decide.points answer.point r w.watch e w.is_watch in
       let zone_watch : z ≡ w.zone_watch = zone_watch_read stands answer.point own r z e h in
       let manual : r.manual ≡ w.point.manual = ap (λ (o : PointWatch). o.manual) point ∙ w.watches.manual in
       let rule : z.rule ≡ w.zone.rule = ap (λ (o : ZoneWatch). o.rule) zone_watch ∙ w.watches_zone.rule in
@@ -240,14 +240,14 @@ module _ {site : Site} {kept : Retained} {panel : ℕ} {done : List Done} {taken
       sym (ap (λ b. b && (is_counted site kept done answer && (is_type_C zone.rule || is_detector site answer.point))) off)
 
   points_more : counted ≡ is_counted site kept done answer → floor.0 ≡ floor_before site r.zone answer.stamp.0 done
-      → (place : ℕ) (watch : PointWatch) (point : PointPlan) → slice_get (set decide.points.items answer.point p) place ≡ Some watch
+      → (place : ℕ) (watch : PointWatch) (point : PointPlan) → slice_get (set decide.points answer.point p) place ≡ Some watch
       → slice_get site.points place ≡ Some point → point.panel ≡ panel
       → WatchesPoint site kept done (taken ++ answer ∷ []) place point watch
   points_more c f place watch point there is at =
       ⊎_elim
       (λ here.
       let same : w.point ≡ point = same_place site.points answer.point place w.point point (sym here.0) w.is_point is in
-      let read : r ≡ w.watch = read_is decide.points.items answer.point r w.watch e w.is_watch in
+      let read : r ≡ w.watch = read_is decide.points answer.point r w.watch e w.is_watch in
       let old : WatchesPoint site kept done taken place point r =
       subst (λ (o : PointPlan). WatchesPoint site kept done taken place o r) same
       (subst (λ k. WatchesPoint site kept done taken k w.point r) (sym here.0)
@@ -255,7 +255,7 @@ module _ {site : Site} {kept : Retained} {panel : ℕ} {done : List Done} {taken
       subst (WatchesPoint site kept done (taken ++ answer ∷ []) place point) here.1
       (point_more place point r answer counted floor here.0 c (f ∙ ap (λ k. floor_before site k answer.stamp.0 done) old.zone) old))
       (λ other. point_less place point watch answer other.0 (stands.points place watch point other.1 is at))
-      (get_set decide.points.items answer.point place p watch there)
+      (get_set decide.points answer.point place p watch there)
 
   zones_more : counted ≡ is_counted site kept done answer → (place : ℕ) (watch : ZoneWatch) (zone : ZonePlan)
       → slice_get (set decide.zones.items r.zone (zone_noted pairs answer.point answer.stamp z)) place ≡ Some watch
@@ -280,14 +280,14 @@ module _ {site : Site} {kept : Retained} {panel : ℕ} {done : List Done} {taken
 
   pub stands_more : counted ≡ is_counted site kept done answer → floor.0 ≡ floor_before site r.zone answer.stamp.0 done
       → DecidesFor site kept panel done (taken ++ answer ∷ []) (record decide {
-        points = with_item decide.points answer.point p;
+        points = set decide.points answer.point p;
         zones =
             with_item decide.zones r.zone (zone_noted pairs answer.point answer.stamp z);
       })
   stands_more c f = record {
     wired = stands.wired;
     at = stands.at;
-    point_count = length-set decide.points.items answer.point p ∙ stands.point_count;
+    point_count = length-set decide.points answer.point p ∙ stands.point_count;
     zone_count = length-set decide.zones.items r.zone (zone_noted pairs answer.point answer.stamp z) ∙ stands.zone_count;
     points = points_more c f;
     zones = zones_more c;
@@ -297,29 +297,30 @@ module _ {site : Site} {kept : Retained} {panel : ℕ} {done : List Done} {taken
   }
 
   -- by what the code's calls say of the new values
-  pub stands_noted : (s : PointWatch) (y : ZoneWatch) (b : Bool) → s ≡ p → b ≡ pairs → y ≡ zone_noted b answer.point answer.stamp z
+  pub stands_noted : (next : List PointWatch) (y : ZoneWatch) (b : Bool) → next ≡ set decide.points answer.point p → b ≡ pairs
+      → y ≡ zone_noted b answer.point answer.stamp z
       → counted ≡ is_counted site kept done answer → floor.0 ≡ floor_before site r.zone answer.stamp.0 done
-      → DecidesFor site kept panel done (taken ++ answer ∷ [])
-      (record decide { points = with_item decide.points answer.point s; zones = with_item decide.zones r.zone y })
-  stands_noted s y b es eb ey c f =
-      subst (λ (o : PointWatch × ZoneWatch). DecidesFor site kept panel done (taken ++ answer ∷ [])
-      (record decide { points = with_item decide.points answer.point o.0; zones = with_item decide.zones r.zone o.1 }))
+      → DecidesFor site kept panel done (taken ++ answer ∷ []) (record decide { points = next; zones = with_item decide.zones r.zone y })
+  stands_noted next y b es eb ey c f =
+      subst (λ (o : List PointWatch × ZoneWatch). DecidesFor site kept panel done (taken ++ answer ∷ [])
+      (record decide { points = o.0; zones = with_item decide.zones r.zone o.1 }))
       (both (sym es) (sym (ey ∙ ap (λ t. zone_noted t answer.point answer.stamp z) eb))) (stands_more c f)
     where
-      both : {q w : PointWatch} {t u : ZoneWatch} → q ≡ w → t ≡ u → ◌≡◌ {A = PointWatch × ZoneWatch} (q, t) (w, u)
+      both : {q w : List PointWatch} {t u : ZoneWatch} → q ≡ w → t ≡ u → ◌≡◌ {A = List PointWatch × ZoneWatch} (q, t) (w, u)
       both e f = cc
 
 -- an answer that is no alarm
 pub quiet_noted : {site : Site} {kept : Retained} {panel : ℕ} {done : List Done} {taken : List Answer} {decide : Decide} (stands :
     DecidesFor site kept panel done taken decide) (answer : Answer) → MayTake site panel done taken (answer ∷ []) →
-    is_alarm answer.heard ≡ false → (q s : PointWatch) → q ≡ get_or decide.points.items answer.point q
-    → s ≡ point_noted answer.heard false (record { 0 = 0 }) answer.stamp q →
+    is_alarm answer.heard ≡ false → (q : PointWatch) (s : List PointWatch) → q ≡ get_or decide.points answer.point q
+    → s ≡ set decide.points answer.point (point_noted answer.heard false (record { 0 = 0 }) answer.stamp q) →
     DecidesFor site kept panel done (taken ++ answer ∷ []) (record {
       panel = decide.panel;
-      points = with_item decide.points answer.point s;
+      points = s;
       zones =
           decide.zones;
       reset = decide.reset;
+      batch = decide.batch;
     })
 quiet_noted {site} {kept} {panel} {done} {taken} {decide} stands answer may quiet q s eq es =
     let own = may.own 0 answer refl in
@@ -333,7 +334,7 @@ quiet_noted {site} {kept} {panel} {done} {taken} {decide} stands answer may quie
     in
     let noted =
     stands_noted stands answer may q w.zone_watch eq (sym there) counted floor s w.zone_watch false
-    (es ∙ sym (ap (λ b. point_noted answer.heard b floor answer.stamp q) uncounted))
+    (es ∙ sym (ap (λ b. set decide.points answer.point (point_noted answer.heard b floor answer.stamp q)) uncounted))
     (sym (ap (λ b. b && (is_type_C w.zone_watch.rule || not q.manual)) uncounted)) refl refl refl
     in
     let items : set decide.zones.items q.zone w.zone_watch ≡ decide.zones.items =

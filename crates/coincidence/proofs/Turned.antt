@@ -1,5 +1,5 @@
 -- Answers are taken one list after another.
-use Rattle.std.proofs.Common.{◌≡◌, ℕ, suc, ◌+◌, ◌≤◌, List, [], ◌∷◌, ◌++◌, length, refl, sym, ◌∙◌, ap, subst, arith, append_assoc, append-nil, length-append}
+use Rattle.std.proofs.Common.{◌≡◌, ℕ, suc, ◌+◌, ◌≤◌, List, [], ◌∷◌, ◌++◌, length, slice_get, refl, sym, ◌∙◌, ap, subst, arith, append_assoc, append-nil, length-append}
 use Rattle.tick_units.specs.Lane.{HasRoom, LaneState, with_put}
 use Rattle.site_types.specs.declared.site.Site.{Site}
 use Rattle.site_types.specs.declared.answer.Answer.{Answer}
@@ -7,11 +7,12 @@ use Rattle.site_types.specs.declared.retained.Retained.{Retained}
 use Rattle.site_types.specs.Done.{Done}
 use Rattle.coincidence_rules.specs.declared.finding.Finding.{Finding}
 use Rattle.coincidence_rules.specs.Findings.{finding_of, findings_after}
+use Rattle.coincidence_rules.specs.Applied.{TellsLast}
 use Rattle.coincidence_rules.specs.InOrder.{AreInOrder}
 use Rattle.coincidence_rules.proofs.Lists.{get_left, get_right}
 use Rattle.coincidence.specs.declared.decide.Decide.{Decide}
 use Rattle.coincidence.specs.Changes.{FindsNext, PutsFindings, TakesAnswers}
-use Rattle.coincidence.specs.Stands.{CanTake, DecidesFor}
+use Rattle.coincidence.specs.Stands.{CanTake, DecidesFor, resets}
 use Rattle.coincidence.specs.Premises.{MayTake}
 
 in_order_front : (front behind : List Answer) → AreInOrder (front ++ behind) → AreInOrder front
@@ -59,12 +60,12 @@ same_lane : (l : LaneState Finding) (a b : List Finding) (p q : ℕ) → a ≡ b
     (record { items = b; put = q; taken = l.taken; quota = l.quota; capacity = l.capacity })
 same_lane l a b p q e h = cc
 
-put_both : (l : LaneState Finding) (xs ys : List Finding) → with_put (with_put l xs) ys ≡ with_put l (xs ++ ys)
+pub put_both : (l : LaneState Finding) (xs ys : List Finding) → with_put (with_put l xs) ys ≡ with_put l (xs ++ ys)
 put_both l xs ys =
     let sum = length-append xs ys in
     same_lane l _ _ _ _ (append_assoc l.items xs ys) (omega (arith, sum))
 
-put_none : (l : LaneState Finding) → l ≡ with_put l []
+pub put_none : (l : LaneState Finding) → l ≡ with_put l []
 put_none l = same_lane l _ _ _ _ (sym (append-nil l.items)) (omega arith)
 
 -- nothing is taken, and then one list behind another
@@ -130,6 +131,47 @@ room_behind decide xs l m all more can puts room fits =
     let ever = room.1 in
     (omega (arith, count, size, capacity, items, fits), omega (arith, count, put, ever, fits))
 
+-- there is room for findings that are held back, where they are among those of some answers
+pub held_behind : (decide : Decide) (xs : List Answer) (l m : LaneState Finding) (held : List Finding) (all : ℕ) → CanTake decide xs
+    → PutsFindings decide xs l (with_put m held) → HasRoom l all → length xs ≤ all → HasRoom m (length held)
+held_behind decide xs l m held all can puts room fits =
+    let found = findings_after can.site can.kept can.panel can.done can.taken xs in
+    let is = puts can.site can.kept can.panel can.done can.taken can.stands can.may in
+    let count = length_findings can.site can.kept can.panel can.done can.taken xs in
+    let size = sym (length-append m.items held) ∙ ap (λ (o : LaneState Finding). length o.items) is ∙ length-append l.items found in
+    let put = ap (λ (o : LaneState Finding). o.put) is in
+    let capacity = ap (λ (o : LaneState Finding). o.capacity) is in
+    let items = room.0 in
+    let ever = room.1 in
+    (omega (arith, count, size, capacity, items, fits), omega (arith, count, put, ever, fits))
+
+-- what a turn took of its lane is no part of what it stands for
+module _ (a b : Decide) (panels : b.panel ≡ a.panel) (points : b.points ≡ a.points) (zones : b.zones ≡ a.zones) (reset : b.reset ≡ a.reset) where
+  pub stands_same : {site : Site} {kept : Retained} {panel : ℕ} {done : List Done} {taken : List Answer} → DecidesFor site kept panel done taken a
+      → DecidesFor site kept panel done taken b
+  stands_same {panel = panel} {done = done} h = record {
+    wired = h.wired;
+    at = panels ∙ h.at;
+    point_count = ap length points ∙ h.point_count;
+    zone_count = ap (λ zs. length zs.items) zones ∙ h.zone_count;
+    points = λ place watch point there. h.points place watch point (ap (λ ps. slice_get ps place) (sym points) ∙ there);
+    zones = λ place watch zone there. h.zones place watch zone (ap (λ zs. slice_get zs.items place) (sym zones) ∙ there);
+    reset = subst (TellsLast (resets panel) done) (sym reset) h.reset;
+    order = h.order;
+    own = h.own;
+  }
+
+  pub can_same : (xs : List Answer) → CanTake a xs → CanTake b xs
+  can_same xs can = record {
+    site = can.site;
+    kept = can.kept;
+    panel = can.panel;
+    done = can.done;
+    taken = can.taken;
+    stands = stands_same can.stands;
+    may = can.may;
+  }
+
 -- a part of the answers is taken next, behind those before it
 module _ (old now : Decide) (all before part more behind : List Answer) (is_more : more ≡ before ++ part) (parts : all ≡ more ++ behind) where
   can_more : CanTake old all → CanTake old (before ++ part)
@@ -144,6 +186,14 @@ module _ (old now : Decide) (all before part more behind : List Answer) (is_more
       let sum = ap length parts ∙ length-append more behind in
       let both = ap length is_more ∙ length-append before part in
       room_behind old before l m room (length part) (can_front old before part (can_more can)) puts has (omega (arith, sum, both, fits))
+
+  -- and for findings that are held back
+  pub room_held : (l m : LaneState Finding) (held : List Finding) (room : ℕ) → CanTake old all → PutsFindings old before l (with_put m held)
+      → HasRoom l room → length all ≤ room → HasRoom m (length held)
+  room_held l m held room can puts has fits =
+      let sum = ap length parts ∙ length-append more behind in
+      let both = ap length is_more ∙ length-append before part in
+      held_behind old before l m held room (can_front old before part (can_more can)) puts has (omega (arith, sum, both, fits))
 
   pub takes_next : (next : Decide) → TakesAnswers old before now → TakesAnswers now part next → TakesAnswers old more next
   takes_next next first second = subst (λ xs. TakesAnswers old xs next) (sym is_more) (takes_both old now next before part first second)

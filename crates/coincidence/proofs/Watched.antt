@@ -33,7 +33,7 @@ pub record Watched (site : Site) (kept : Retained) (panel : ℕ) (done : List Do
   pub is_point : slice_get site.points place ≡ Some point
   pub at : point.panel ≡ panel
   pub watch : PointWatch
-  pub is_watch : slice_get decide.points.items place ≡ Some watch
+  pub is_watch : slice_get decide.points place ≡ Some watch
   pub watches : WatchesPoint site kept done taken place point watch
   pub zone : ZonePlan
   pub is_zone : slice_get site.zones point.zone ≡ Some zone
@@ -69,7 +69,7 @@ module _ {site : Site} {kept : Retained} {panel : ℕ} {done : List Done} {taken
   pub watched : (place : ℕ) → IsOwn site panel place → Watched site kept panel done taken decide place
   watched place own =
       let small = get_small site.points place own.point own.is in
-      let watch = get_any decide.points.items place (subst (λ n. place < n) (sym stands.point_count) small) in
+      let watch = get_any decide.points place (subst (λ n. place < n) (sym stands.point_count) small) in
       let zoned = stands.wired.zoned place own.point own.is in
       let zone = watched_zone own.point.zone zoned.zone zoned.is (zoned.at_panel ∙ own.at) in
       record {
@@ -87,30 +87,36 @@ module _ {site : Site} {kept : Retained} {panel : ℕ} {done : List Done} {taken
         watches_zone = zone.watches;
       }
 
-  pub point_small : (place : ℕ) → IsOwn site panel place → place < length decide.points.items
-  point_small place own = let w = watched place own in get_small decide.points.items place w.watch w.is_watch
+  pub point_small : (place : ℕ) → IsOwn site panel place → place < length decide.points
+  point_small place own = let w = watched place own in get_small decide.points place w.watch w.is_watch
+
+  -- what is read of a point
+  pub point_read : (place : ℕ) → IsOwn site panel place → (r : PointWatch) × (r ≡ get_or decide.points place r)
+  point_read place own =
+      let w = watched place own in
+      (w.watch, sym (get_or_from_slice_get decide.points place w.watch w.watch w.is_watch))
 
   -- the zone that is read of a point is its zone
-  pub zone_read : (place : ℕ) (own : IsOwn site panel place) (r : PointWatch) → r ≡ get_or decide.points.items place r
+  pub zone_read : (place : ℕ) (own : IsOwn site panel place) (r : PointWatch) → r ≡ get_or decide.points place r
       → r.zone ≡ (watched place own).point.zone
   zone_read place own r e =
       let w = watched place own in
-      ap (λ (x : PointWatch). x.zone) (read_is decide.points.items place r w.watch e w.is_watch) ∙ w.watches.zone
+      ap (λ (x : PointWatch). x.zone) (read_is decide.points place r w.watch e w.is_watch) ∙ w.watches.zone
 
-  pub zone_watch_read : (place : ℕ) (own : IsOwn site panel place) (r : PointWatch) (z : ZoneWatch) → r ≡ get_or decide.points.items place r
+  pub zone_watch_read : (place : ℕ) (own : IsOwn site panel place) (r : PointWatch) (z : ZoneWatch) → r ≡ get_or decide.points place r
       → z ≡ get_or decide.zones.items r.zone z → z ≡ (watched place own).zone_watch
   zone_watch_read place own r z e h =
       let w = watched place own in
       read_is decide.zones.items r.zone z w.zone_watch h (ap (slice_get decide.zones.items) (zone_read place own r e) ∙ w.is_zone_watch)
 
-  pub zone_watched : (place : ℕ) (own : IsOwn site panel place) (r : PointWatch) (z : ZoneWatch) → r ≡ get_or decide.points.items place r
+  pub zone_watched : (place : ℕ) (own : IsOwn site panel place) (r : PointWatch) (z : ZoneWatch) → r ≡ get_or decide.points place r
       → z ≡ get_or decide.zones.items r.zone z
       → WatchesZone site kept done taken (watched place own).point.zone (watched place own).zone z
   zone_watched place own r z e h =
       let w = watched place own in
       subst (WatchesZone site kept done taken w.point.zone w.zone) (sym (zone_watch_read place own r z e h)) w.watches_zone
 
-  pub zone_small : (place : ℕ) → IsOwn site panel place → (r : PointWatch) → r ≡ get_or decide.points.items place r
+  pub zone_small : (place : ℕ) → IsOwn site panel place → (r : PointWatch) → r ≡ get_or decide.points place r
       → r.zone < length decide.zones.items
   zone_small place own r e =
       let w = watched place own in
@@ -127,14 +133,14 @@ module _ {site : Site} {kept : Retained} {panel : ℕ} {done : List Done} {taken
   place_in None own = tt
   place_in (Some other) own = subst (λ n. other < n) (sym stands.zone_count) (get_small site.zones other own.zone own.is)
 
-  pub partner_small : (place : ℕ) → IsOwn site panel place → (r : PointWatch) (z : ZoneWatch) → r ≡ get_or decide.points.items place r
+  pub partner_small : (place : ℕ) → IsOwn site panel place → (r : PointWatch) (z : ZoneWatch) → r ≡ get_or decide.points place r
       → z ≡ get_or decide.zones.items r.zone z → IsPlaceIn z.partner (length decide.zones.items)
   partner_small place own r z e h =
       let w = watched place own in
       let same : z.partner ≡ w.zone.partner = ap (λ (x : ZoneWatch). x.partner) (zone_watch_read place own r z e h) ∙ w.watches_zone.partner in
       place_in z.partner (partner_own w.point.zone w.zone w.is_zone w.zone_at z.partner (sym same))
 
-  pub number_fits : (place : ℕ) → IsOwn site panel place → (r : PointWatch) (z : ZoneWatch) → r ≡ get_or decide.points.items place r
+  pub number_fits : (place : ℕ) → IsOwn site panel place → (r : PointWatch) (z : ZoneWatch) → r ≡ get_or decide.points place r
       → z ≡ get_or decide.zones.items r.zone z → IsNumber z.number
   number_fits place own r z e h =
       let w = watched place own in
@@ -153,7 +159,7 @@ module _ {site : Site} {kept : Retained} {panel : ℕ} {done : List Done} {taken
 
   -- the numbers of the zone and of what is found for its partner
   pub numbers_fit : (answer : Answer) (fits : Fits site panel done taken answer) (r : PointWatch) (z : ZoneWatch)
-      → r ≡ get_or decide.points.items answer.point r → z ≡ get_or decide.zones.items r.zone z → (seen : Observation) (found : PartnerFinding)
+      → r ≡ get_or decide.points answer.point r → z ≡ get_or decide.zones.items r.zone z → (seen : Observation) (found : PartnerFinding)
       → ((place : ℕ) (plan : ZonePlan) → slice_get site.zones place ≡ Some plan → plan.panel ≡ panel → WatchesZone site kept done taken place plan z
       → FindsPartner site plan plan.partner seen found)
       → IsNumber z.number × IsNumber found.number
@@ -165,16 +171,16 @@ module _ {site : Site} {kept : Retained} {panel : ℕ} {done : List Done} {taken
       )
 
   -- a switch was not set after a stamp
-  pub off_since : (answer : Answer) (fits : Fits site panel done taken answer) (r : PointWatch) → r ≡ get_or decide.points.items answer.point r
+  pub off_since : (answer : Answer) (fits : Fits site panel done taken answer) (r : PointWatch) → r ≡ get_or decide.points answer.point r
       → r.off.since.0 ≤ answer.stamp.0
   off_since answer fits r e =
       let w = watched answer.point fits.own in
-      let same : r ≡ w.watch = read_is decide.points.items answer.point r w.watch e w.is_watch in
+      let same : r ≡ w.watch = read_is decide.points answer.point r w.watch e w.is_watch in
       subst (λ (x : PointWatch). x.off.since.0 ≤ answer.stamp.0) (sym same)
       (subst (λ n. n ≤ answer.stamp.0) (sym w.watches.off.since) (set_in_by answer.stamp.0 (PointOff answer.point) done fits.since))
 
   pub zone_off_since : (answer : Answer) (fits : Fits site panel done taken answer) (r : PointWatch) (z : ZoneWatch)
-      → r ≡ get_or decide.points.items answer.point r → z ≡ get_or decide.zones.items r.zone z → z.off.since.0 ≤ answer.stamp.0
+      → r ≡ get_or decide.points answer.point r → z ≡ get_or decide.zones.items r.zone z → z.off.since.0 ≤ answer.stamp.0
   zone_off_since answer fits r z e h =
       let w = watched answer.point fits.own in
       let same : z ≡ w.zone_watch = zone_watch_read answer.point fits.own r z e h in
@@ -182,7 +188,7 @@ module _ {site : Site} {kept : Retained} {panel : ℕ} {done : List Done} {taken
       (subst (λ n. n ≤ answer.stamp.0) (sym w.watches_zone.off.since) (set_in_by answer.stamp.0 (ZoneOff w.point.zone) done fits.since))
 
   pub test_since : (answer : Answer) (fits : Fits site panel done taken answer) (r : PointWatch) (z : ZoneWatch)
-      → r ≡ get_or decide.points.items answer.point r → z ≡ get_or decide.zones.items r.zone z → z.test.since.0 ≤ answer.stamp.0
+      → r ≡ get_or decide.points answer.point r → z ≡ get_or decide.zones.items r.zone z → z.test.since.0 ≤ answer.stamp.0
   test_since answer fits r z e h =
       let w = watched answer.point fits.own in
       let same : z ≡ w.zone_watch = zone_watch_read answer.point fits.own r z e h in

@@ -1,5 +1,7 @@
 -- What taking answers and applying an operation make of the part that decides, whatever it stood for.
-use Rattle.std.specs.Prelude.{◌≡◌, ℕ, List, [], ◌∷◌, ◌++◌}
+use Rattle.std.specs.Prelude.{◌≡◌, ◌<◌, ℕ, Bool, List, [], ◌∷◌, ◌++◌, slice_index_or, slice_set}
+use Rattle.tick_units.specs.declared.tick.Tick.{Tick}
+use Rattle.site_types.specs.declared.heard.Heard.{Heard}
 use Rattle.tick_units.specs.Lane.{LaneState, with_put}
 use Rattle.site_types.specs.declared.answer.Answer.{Answer}
 use Rattle.site_types.specs.declared.operation.Operation.{Operation}
@@ -10,9 +12,28 @@ use Rattle.coincidence_rules.specs.declared.finding.Finding.{Finding}
 use Rattle.coincidence_rules.specs.Findings.{finding_of, findings_after}
 use Rattle.coincidence.specs.declared.decide.Decide.{Decide}
 use Rattle.coincidence.specs.declared.judgement.Judgement.{Judgement}
+use Rattle.coincidence.specs.declared.point_watch.PointWatch.{PointWatch}
 use Rattle.coincidence.specs.Observations.{Judges}
+use Rattle.coincidence.specs.Parts.{point_noted, switch_after}
 use Rattle.coincidence.specs.Premises.{MayTake, MayApply}
 use Rattle.coincidence.specs.Stands.{DecidesFor}
+
+-- what is kept of points after an answer of one of them, with whether it counts and the floor before it
+abbrev pub NotesPoint : ℕ → Heard → Bool → Tick → Tick → List PointWatch → List PointWatch → Type 0
+NotesPoint place heard counted floor stamp old points =
+    (watch : PointWatch) → watch ≡ slice_index_or old place watch
+    → points ≡ slice_set old place (point_noted heard counted floor stamp watch)
+
+-- what is kept of points after one of them was disabled or enabled at a tick
+abbrev pub SwitchesPoint : ℕ → Bool → Tick → List PointWatch → List PointWatch → Type 0
+SwitchesPoint place off at old points =
+    (watch : PointWatch) → watch ≡ slice_index_or old place watch
+    → points ≡ slice_set old place (record watch { off = switch_after off at watch.off })
+
+-- the point was disabled or enabled last before a tick
+abbrev pub IsSwitchedBefore : ℕ → ℕ → List PointWatch → Type 0
+IsSwitchedBefore place tick points =
+    (watch : PointWatch) → watch ≡ slice_index_or points place watch → watch.off.since.0 < tick
 
 -- these answers are taken after those before
 abbrev pub TakesAnswers : Decide → List Answer → Decide → Type 0

@@ -1,4 +1,5 @@
 pub mod Parts
+pub mod Places
 pub mod Resting
 pub mod Stands
 pub mod Observations

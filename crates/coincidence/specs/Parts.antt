@@ -1,10 +1,10 @@
 -- What the parts that decide make of an answer or an operation.
-use Rattle.std.specs.Prelude.{ℕ, ◌+◌, Bool, Option, Some, None, ◌==◌, ◌&&◌, nat_lt, if◌then◌else◌}
+use Rattle.std.specs.Prelude.{ℕ, ◌+◌, Bool, false, Option, Some, None, ◌==◌, ◌&&◌, nat_lt, if◌then◌else◌}
 use Rattle.std.specs.Option.{is_none}
 use Rattle.tick_units.specs.declared.tick.Tick.{Tick}
 use Rattle.tick_units.specs.declared.switch.Switch.{Switch}
 use Rattle.site_types.specs.declared.heard.Heard.{Heard}
-use Rattle.site_types.specs.declared.heard.Heard.TheVariants.{Silent}
+use Rattle.site_types.specs.declared.heard.Heard.TheVariants.{Quiet, Alarm, Silent}
 use Rattle.coincidence_rules.specs.Kept.{run_then}
 use Rattle.site_types.specs.declared.point.Point.{Point as PointPlan}
 use Rattle.site_types.specs.declared.zone.Zone.{Zone as ZonePlan}
@@ -61,6 +61,16 @@ point_noted heard counted floor stamp watch =
 -- a point whose last answer was heard and didn't count
 abbrev pub is_at_rest : PointWatch → Bool
 is_at_rest watch = (watch.silent == 0) && is_none watch.run
+
+-- a point whose last answers were silent, as many as make it missing
+abbrev pub stays_missing : PointWatch → Bool
+stays_missing watch = (watch.silent == missing_askings) && is_none watch.run
+
+-- an answer that is heard so leaves what is kept of its point as it is
+abbrev pub leaves_watch : Heard → PointWatch → Bool
+leaves_watch Quiet watch = is_at_rest watch
+leaves_watch Silent watch = stays_missing watch
+leaves_watch Alarm watch = false
 
 -- a zone after it was disabled or enabled at a tick; a disabling moves its floor
 abbrev pub zone_switched : Bool → Tick → ZoneWatch → ZoneWatch

@@ -1,5 +1,5 @@
 -- What the part that decides tells of an answer, whatever it stands for.
-use Rattle.std.specs.Prelude.{◌≡◌, ℕ, Bool, List, [], ◌∷◌, ◌++◌, Option, Some, slice_get}
+use Rattle.std.specs.Prelude.{◌≡◌, ℕ, Bool, List, [], ◌∷◌, ◌++◌, Option, Some, slice_get, slice_index_or}
 use Rattle.tick_units.specs.declared.tick.Tick.{Tick}
 use Rattle.site_types.specs.declared.answer.Answer.{Answer}
 use Rattle.site_types.specs.declared.point.Point.{Point}
@@ -15,6 +15,7 @@ use Rattle.coincidence.specs.declared.partner_finding.PartnerFinding.{PartnerFin
 use Rattle.coincidence.specs.declared.decide.Decide.{Decide}
 use Rattle.coincidence.specs.declared.judgement.Judgement.{Judgement}
 use Rattle.coincidence.specs.declared.observation.Observation.{Observation}
+use Rattle.coincidence.specs.declared.point_watch.PointWatch.{PointWatch}
 use Rattle.coincidence.specs.declared.zone_watch.ZoneWatch.{ZoneWatch}
 use Rattle.coincidence.specs.Observations.{Judges, Observes, FindsPartner, partner_second_of}
 use Rattle.coincidence.specs.Stands.{DecidesFor, Fits, IsOwnPartner, WatchesZone}
@@ -26,6 +27,11 @@ FindsLast decide answer finding =
     → DecidesFor site kept panel done (taken ++ answer ∷ []) decide
     → Fits site panel done (taken ++ answer ∷ []) answer
     → finding ≡ finding_of site kept panel done taken answer
+
+-- these are what is kept of the answer's point and of the point's zone
+pub record AreKeptOf (decide : Decide) (answer : Answer) (point : PointWatch) (zone : ZoneWatch) : Type 0 where
+  pub point_is : point ≡ slice_index_or decide.points answer.point point
+  pub zone_is : zone ≡ slice_index_or decide.zones.items point.zone zone
 
 -- this is what the operations done before an answer say of it
 abbrev pub TellsJudgement : Decide → Answer → Judgement → Type 0
@@ -65,6 +71,11 @@ TellsFloor decide zone tick floor =
     → DecidesFor site kept panel done taken decide → AreBy tick done
     → (plan : Zone) → slice_get site.zones zone ≡ Some plan → plan.panel ≡ panel
     → floor ≡ floor_before site zone tick done
+
+-- the last floor of a zone of which this is kept
+abbrev pub TellsFloorOf : Decide → ZoneWatch → ℕ → ℕ → Type 0
+TellsFloorOf decide watch tick floor =
+    (zone : ℕ) → watch ≡ slice_index_or decide.zones.items zone watch → TellsFloor decide zone tick floor
 
 -- the latest answer of another point of the zone, with its floor before this one, that makes a pair with it
 abbrev pub TellsSecond : Decide → ℕ → ℕ → Answer → Option Tick → Type 0

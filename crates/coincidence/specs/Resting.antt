@@ -1,20 +1,18 @@
--- Answers that change nothing of what is kept: those of points at rest that are quiet.
-use Rattle.std.specs.Prelude.{◌≡◌, Some, false, slice_get, true}
+-- Answers that change nothing of what is kept: quiet ones of points at rest, silent ones of points that stay missing.
+use Rattle.std.specs.Prelude.{◌≡◌, Some, slice_get, true}
 use Rattle.site_types.specs.declared.answer.Answer.{Answer}
-use Rattle.site_types.specs.declared.heard.Heard.TheVariants.{Quiet}
+use Rattle.coincidence_rules.specs.Counted.{is_silent}
 use Rattle.coincidence_rules.specs.declared.finding.Finding.{Finding}
 use Rattle.coincidence.specs.declared.decide.Decide.{Decide}
 use Rattle.coincidence.specs.declared.point_watch.PointWatch.{PointWatch}
-use Rattle.coincidence.specs.Parts.{is_at_rest}
+use Rattle.coincidence.specs.Parts.{leaves_watch}
 
--- the answer is quiet, and what is kept of its point is at rest
-pub record IsAtRest (decide : Decide) (answer : Answer) : Type 0 where
-  pub quiet : answer.heard ≡ Quiet
-  pub watch : PointWatch
-  pub is : slice_get decide.points.items answer.point ≡ Some watch
-  pub rests : is_at_rest watch ≡ true
+-- the answer leaves what is kept of its point as it is
+abbrev pub LeavesPoint : Decide → Answer → Type 0
+LeavesPoint decide answer =
+    (watch : PointWatch) → slice_get decide.points answer.point ≡ Some watch → leaves_watch answer.heard watch ≡ true
 
--- the finding of such an answer: it tells of no zone, and the point isn't missing
+-- the finding of such an answer: it tells of no zone, and the point is missing where the answer is silent
 abbrev pub plain_of : Answer → Finding
 plain_of answer = record {
   stamp = answer.stamp;
@@ -23,5 +21,5 @@ plain_of answer = record {
   confirmed = 0;
   manual = 0;
   released = 0;
-  missing = false;
+  missing = is_silent answer.heard;
 }

@@ -86,10 +86,10 @@ pub record DecidesFor (site : Site) (kept : Retained) (panel : ℕ) (done : List
     (decide : Decide) : Type 0 where
   pub wired : IsWired site
   pub at : decide.panel ≡ panel
-  pub point_count : length decide.points.items ≡ length site.points
+  pub point_count : length decide.points ≡ length site.points
   pub zone_count : length decide.zones.items ≡ length site.zones
   pub points : (place : ℕ) (watch : PointWatch) (point : PointPlan)
-      → slice_get decide.points.items place ≡ Some watch → slice_get site.points place ≡ Some point
+      → slice_get decide.points place ≡ Some watch → slice_get site.points place ≡ Some point
       → point.panel ≡ panel
       → WatchesPoint site kept done taken place point watch
   pub zones : (place : ℕ) (watch : ZoneWatch) (zone : ZonePlan)

@@ -1,4 +1,4 @@
-ghost use Rattle.std.specs.Prelude.{◌≡◌, ◌<◌, ◌≤◌, ◌+◌, ◌==◌, ◌&&◌, ℕ, if◌then◌else◌, false};
+ghost use Rattle.std.specs.Prelude.{◌≡◌, ◌<◌, ◌≤◌, ◌+◌, ◌==◌, ◌&&◌, ℕ, if◌then◌else◌, false, true};
 ghost use Rattle.site_types.specs.Bits.{has_bit};
 ghost use Rattle.site_types.specs.Changes.{IsNumber};
 
@@ -19,4 +19,13 @@ pub fn two_bits(number: u8, on: bool, other: u8, also: bool) -> u32
         → has_bit result k ≡ (if (k + 1) == number then on else (((k + 1) == other) && also)) }
 {
     with_bit_32(with_bit_32(0, other - 1, also), number - 1, on)
+}
+
+/// Whether the first bits of a byte, so many, are set.
+pub fn has_first_bits(byte: u8, count: u8) -> bool
+    requires { count ≤ 8 }
+    ensures { result ≡ true → (k : ℕ) → k < count → has_bit byte k ≡ true }
+{
+    let bits = ((1u16 << count) - 1) as u8;
+    byte & bits == bits
 }

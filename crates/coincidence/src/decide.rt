@@ -1,21 +1,22 @@
 ghost use Rattle.std.specs.Prelude.{◌≡◌, ◌<◌, ◌≤◌, [], ◌∷◌, All, IfOk, false, length, true};
 ghost use Rattle.site_types.specs.Valid.{IsValid};
 ghost use Rattle.tick_units.specs.Lane.{HasRoom, after_turn};
-ghost use Rattle.answer_lanes.specs.Points.{answer_behind};
+ghost use Rattle.answer_lanes.specs.Points.{answer_at};
 ghost use Rattle.answer_lanes.specs.Runs.{HasShortCount, items_of};
 
-use crate::bits::{one_bit, two_bits};
+use crate::bits::{has_first_bits, one_bit, two_bits};
+use crate::gathering::gather;
 use crate::judgement::Judgement;
 use crate::observation::Observation;
-use crate::partner_finding::PartnerFinding;
-use crate::point_watch::{PointWatch, are_all_at_rest};
-use crate::rules::{after, counts_unless, is_on, may_pair, plain_finding};
-use crate::watches::{watch_points, watch_zones};
+use crate::point_watch::PointWatch;
+use crate::point_watches::PointWatches;
+use crate::rules::{counts_unless, is_on, may_pair, plain_finding, plain_group};
+use crate::watches::watch_zones;
 use crate::zone_watch::ZoneWatch;
-use answer_lanes::{Lane, Run};
+use answer_lanes::{AnswerGroup, FindingGroup, Lane, Run};
 use arrayvec::ArrayVec;
 use coincidence_rules::Finding;
-use site_types::{Answer, Heard, Item, Operation, Retained, Site};
+use site_types::{Answer, Heard, Item, Operation, Retained, Site, has_bit_8};
 use std::alloc::Global;
 use tick_units::{LastDone, NoMemory, Tick};
 
@@ -26,22 +27,25 @@ use tick_units::{LastDone, NoMemory, Tick};
 /// earlier value: that of the tick in which it was set.
 #[derive(Drop)]
 pub struct Decide {
-    panel: u8,
+    pub(crate) panel: u8,
     /// By the points' places in the site.
-    points: Vec<PointWatch>,
+    pub(crate) points: PointWatches,
     /// By the zones' places in the site.
-    zones: Vec<ZoneWatch>,
+    pub(crate) zones: Vec<ZoneWatch>,
     /// The last reset of the panel.
-    reset: LastDone,
+    pub(crate) reset: LastDone,
+    /// What the last turn took of its lane.
+    batch: ArrayVec<Run<AnswerGroup>, 32>,
 }
 
 impl Decide {
-    ghost use Rattle.coincidence_rules.specs.Counted.{is_alarm};
+    ghost use Rattle.coincidence_rules.specs.Counted.{is_alarm, is_silent};
     ghost use Rattle.coincidence.specs.Changes.{AppliesOperation, FindsNext, PutsFindings, TakesAnswers, TakesJudged};
-    ghost use Rattle.coincidence.specs.Queries.{FindsJudged, FindsLast, ObservesJudged, TellsCounted, TellsFloor};
-    ghost use Rattle.coincidence.specs.Queries.{TellsJudgement, TellsPartnerFinding, TellsPartnerSecond, TellsSecond};
-    ghost use Rattle.coincidence.specs.Resting.{IsAtRest};
-    ghost use Rattle.coincidence.specs.Stands.{DecidesFor, IsPlaceIn, CanObserve, CanTake, taken_by, CanApply};
+    ghost use Rattle.coincidence.specs.Queries.{AreKeptOf, FindsJudged, FindsLast, ObservesJudged, TellsCounted};
+    ghost use Rattle.coincidence.specs.Queries.{TellsFloor, TellsFloorOf};
+    ghost use Rattle.coincidence.specs.Queries.{TellsJudgement};
+    ghost use Rattle.coincidence.specs.Resting.{LeavesPoint};
+    ghost use Rattle.coincidence.specs.Stands.{DecidesFor, CanObserve, CanTake, taken_by, CanApply};
     ghost use Rattle.coincidence.specs.Stands.{off_operation};
 
     /// Begins with what is kept of a panel's site.
@@ -49,18 +53,19 @@ impl Decide {
         requires { IsValid site.now }
         ensures { IfOk result (λ decide. DecidesFor site.now kept.now panel [] [] decide) }
     {
-        let points = watch_points(alloc, site.points.as_slice(), kept)?;
+        let points = PointWatches::new(alloc, site.points.as_slice(), kept)?;
         let zones = watch_zones(alloc, site.zones.as_slice(), kept)?;
         Ok(Decide {
             panel,
             points,
             zones,
             reset: LastDone::never(),
+            batch: ArrayVec::new(),
         })
     }
 
     /// Takes the answers of a turn, and puts one finding for each.
-    pub fn turn(&mut self, answers: &mut Lane<Answer>, findings: &mut Lane<Finding>)
+    pub fn turn(&mut self, answers: &mut Lane<AnswerGroup>, findings: &mut Lane<FindingGroup>)
         requires quota { answers.old.quota ≤ 32 }
         requires room { HasRoom findings.old 32 }
         requires may { CanTake self.old (taken_by answers.old) }
@@ -71,10 +76,11 @@ impl Decide {
         if answers.len() == 0 {
             return;
         }
-        let mut batch: ArrayVec<Run<Answer>, 32> = ArrayVec::new();
-        answers.take_turn(&mut batch);
-        for run in batch.as_slice() {
-            self.take_run(run, findings);
+        self.batch.clear();
+        answers.take_turn(&mut self.batch);
+        for place in 0..self.batch.len() {
+            let run = self.batch.as_slice()[place];
+            self.take_run(&run, findings);
         }
     }
 
@@ -105,47 +111,59 @@ impl Decide {
         ensures { AppliesOperation self.old (off_operation off item.now) at.0 self.new }
     {
         match *item {
-            Item::Point(point) => self.points[point as usize].set_off(off, at),
+            Item::Point(point) => self.points.set_off(point as usize, off, at),
             Item::Zone(zone) => self.zones[zone as usize].set_off(off, at),
             Item::Output(_) => {}
         }
     }
 
     // Takes the answers of a run, and puts one finding for each.
-    fn take_run(&mut self, run: &Run<Answer>, findings: &mut Lane<Finding>)
+    fn take_run(&mut self, run: &Run<AnswerGroup>, findings: &mut Lane<FindingGroup>)
         requires run { HasShortCount run.now }
         requires room { HasRoom findings.old run.now.count }
-        requires may { CanTake self.old (items_of answer_behind run.now) }
-        ensures taken { TakesAnswers self.old (items_of answer_behind run.now) self.new }
-        ensures findings { PutsFindings self.old (items_of answer_behind run.now) findings.old
+        requires may { CanTake self.old (items_of answer_at run.now) }
+        ensures taken { TakesAnswers self.old (items_of answer_at run.now) self.new }
+        ensures findings { PutsFindings self.old (items_of answer_at run.now) findings.old
             findings.new }
+        ensures batch { self.new.batch ≡ self.old.batch }
     {
-        if self.are_at_rest(run) {
+        if self.is_unchanged_by(run) {
             findings.put_run(Run {
-                first: plain_finding(&run.first),
+                first: plain_group(&run.first),
                 taken: run.taken,
                 count: run.count,
             });
             return;
         }
+        let mut found = Run::none();
         for place in run.taken..run.taken + run.count {
             let finding = self.take(&run.item(place));
-            findings.put(finding);
+            gather(finding, &mut found, findings);
         }
+        findings.put_run(found);
     }
 
-    // Whether the answers of a run are quiet and of points at rest, so that they change nothing that is kept.
-    fn are_at_rest(&self, run: &Run<Answer>) -> bool
-        ensures { result ≡ true → All (IsAtRest self.now) (items_of answer_behind run.now) }
+    // Whether the answers of a run, at most eight, leave what is kept of their points as it is.
+    fn is_unchanged_by(&self, run: &Run<AnswerGroup>) -> bool
+        ensures { result ≡ true → All (LeavesPoint self.now) (items_of answer_at run.now) }
     {
         let first = run.first.point as usize + run.taken as usize;
-        let end = first + run.count as usize;
-        if !matches!(run.first.heard, Heard::Quiet)
-            || end > self.points.len().min(u16::MAX as usize)
-        {
+        if run.count > 8 || first + run.count as usize > u16::MAX as usize {
             return false;
         }
-        are_all_at_rest(&self.points[first..end])
+        let resting = self.points.resting_from(first);
+        let missing = self.points.missing_from(first);
+        has_first_bits(
+            run.first.matching_bits(run.taken, resting, missing),
+            run.count,
+        )
+    }
+
+    // Whether an answer leaves what is kept of its point as it is.
+    fn is_left_by(&self, answer: &Answer) -> bool
+        ensures { result ≡ true → LeavesPoint self.now answer.now }
+    {
+        has_bit_8(self.points.left_by(answer.heard, answer.point as usize), 0)
     }
 
     // Takes an answer: what it means, by those taken up to it.
@@ -153,24 +171,43 @@ impl Decide {
         requires { CanTake self.old (answer.now ∷ []) }
         ensures taken { TakesAnswers self.old (answer.now ∷ []) self.new }
         ensures found { FindsNext self.old answer.now result }
+        ensures batch { self.new.batch ≡ self.old.batch }
     {
         match answer.heard {
             Heard::Alarm => self.take_alarm(answer),
-            Heard::Quiet | Heard::Silent => {
-                self.note_quiet(answer);
-                self.quiet_finding(answer)
-            }
+            Heard::Quiet | Heard::Silent => self.take_no_alarm(answer),
         }
+    }
+
+    // Takes an answer that is no alarm.
+    fn take_no_alarm(&mut self, answer: &Answer) -> Finding
+        requires may { CanTake self.old (answer.now ∷ []) }
+        requires quiet { is_alarm answer.now.heard ≡ false }
+        ensures taken { TakesAnswers self.old (answer.now ∷ []) self.new }
+        ensures found { FindsNext self.old answer.now result }
+        ensures batch { self.new.batch ≡ self.old.batch }
+    {
+        if self.is_left_by(answer) {
+            return plain_finding(answer);
+        }
+        self.note_quiet(answer);
+        self.quiet_finding(answer)
     }
 
     // Takes note of an answer that is no alarm: it ends the run of its point, and makes no pair.
     fn note_quiet(&mut self, answer: &Answer)
         requires { CanTake self.old (answer.now ∷ []) }
-        ensures { is_alarm answer.now.heard ≡ false
+        ensures taken { is_alarm answer.now.heard ≡ false
             → TakesAnswers self.old (answer.now ∷ []) self.new }
+        ensures batch { self.new.batch ≡ self.old.batch }
     {
-        let watch = &mut self.points[answer.point as usize];
-        watch.note(answer.heard, false, Tick(0), answer.stamp);
+        self.points.note(
+            answer.point as usize,
+            answer.heard,
+            false,
+            Tick(0),
+            answer.stamp,
+        );
     }
 
     // What an answer means that is no alarm and was the last one taken: it tells of no zone.
@@ -179,7 +216,7 @@ impl Decide {
         ensures { is_alarm answer.now.heard ≡ false → FindsLast self.now answer.now result }
     {
         Finding {
-            missing: self.points[answer.point as usize].is_missing(),
+            missing: self.points.at(answer.point as usize).is_missing(),
             ..plain_finding(answer)
         }
     }
@@ -188,34 +225,56 @@ impl Decide {
     fn take_alarm(&mut self, answer: &Answer) -> Finding
         requires { CanTake self.old (answer.now ∷ []) }
         ensures taken { TakesAnswers self.old (answer.now ∷ []) self.new }
-        ensures found { FindsNext self.old answer.now result }
+        ensures found { is_silent answer.now.heard ≡ false → FindsNext self.old answer.now result }
+        ensures batch { self.new.batch ≡ self.old.batch }
     {
-        let judgement = self.judge(answer);
+        let point = self.points.at(answer.point as usize);
+        let zone = &self.zones[point.zone as usize];
+        let judgement = self.judge(answer, point, zone);
+        let plain = zone.is_plain();
+        let number = zone.number;
+        let manual = point.manual;
         self.note_alarm(answer, &judgement);
-        self.alarm_finding(answer, &judgement)
+        if !plain {
+            return self.coincidence_finding(answer, &judgement);
+        }
+        let told = one_bit(number, judgement.counted);
+        let called = one_bit(number, judgement.counted & manual);
+        Finding {
+            stamp: answer.stamp,
+            point: answer.point,
+            counted: told,
+            confirmed: told,
+            manual: called,
+            released: told,
+            missing: false,
+        }
     }
 
     // What the operations done before an answer say of it.
-    fn judge(&self, answer: &Answer) -> Judgement
-        requires { CanObserve self.now answer.now }
+    fn judge(&self, answer: &Answer, point: &PointWatch, zone: &ZoneWatch) -> Judgement
+        requires may { CanObserve self.now answer.now }
+        requires read { AreKeptOf self.now answer.now point.now zone.now }
         ensures { TellsJudgement self.now answer.now result }
     {
-        let zone = self.points[answer.point as usize].zone as usize;
         Judgement {
-            counted: self.counts(answer),
-            floor: self.floor_at(zone, answer.stamp),
+            counted: self.counts(answer, point, zone),
+            floor: self.floor_of(zone, answer.stamp),
         }
     }
 
     // Takes note of an alarm of which this is said.
     fn note_alarm(&mut self, answer: &Answer, judgement: &Judgement)
         requires { CanTake self.old (answer.now ∷ []) }
-        ensures { TakesJudged self.old answer.now judgement.now self.new }
+        ensures taken { TakesJudged self.old answer.now judgement.now self.new }
+        ensures batch { self.new.batch ≡ self.old.batch }
     {
-        let watch = &mut self.points[answer.point as usize];
-        let zone = watch.zone as usize;
-        let manual = watch.manual;
-        watch.note(
+        let place = answer.point as usize;
+        let point = self.points.at(place);
+        let zone = point.zone as usize;
+        let manual = point.manual;
+        self.points.note(
+            place,
             answer.heard,
             judgement.counted,
             judgement.floor,
@@ -229,35 +288,13 @@ impl Decide {
         );
     }
 
-    // What an alarm means of which this is said and which was the last answer taken.
-    fn alarm_finding(&self, answer: &Answer, judgement: &Judgement) -> Finding
-        requires { CanObserve self.now answer.now }
-        ensures { FindsJudged self.now answer.now judgement.now result }
-    {
-        let point = &self.points[answer.point as usize];
-        let zone = &self.zones[point.zone as usize];
-        if !zone.is_plain() {
-            return self.coincidence_finding(answer, judgement);
-        }
-        let told = one_bit(zone.number, judgement.counted);
-        Finding {
-            stamp: answer.stamp,
-            point: answer.point,
-            counted: told,
-            confirmed: told,
-            manual: one_bit(zone.number, judgement.counted & point.manual),
-            released: told,
-            missing: point.is_missing(),
-        }
-    }
-
     // What an alarm means of which this is said and which was the last answer taken, by the answers before it.
     fn coincidence_finding(&self, answer: &Answer, judgement: &Judgement) -> Finding
         requires { CanObserve self.now answer.now }
         ensures { FindsJudged self.now answer.now judgement.now result }
     {
         let observation = self.observe(answer, judgement);
-        let point = &self.points[answer.point as usize];
+        let point = self.points.at(answer.point as usize);
         let zone = &self.zones[point.zone as usize];
         let partner_finding = self.partner_finding(zone, &observation);
         let number = zone.number;
@@ -289,7 +326,7 @@ impl Decide {
         requires { CanObserve self.now answer.now }
         ensures { ObservesJudged self.now answer.now judgement.now result }
     {
-        let point = &self.points[answer.point as usize];
+        let point = self.points.at(answer.point as usize);
         let place = point.zone as usize;
         let partner = self.zones[place].partner;
         let own_second = self.second(place, judgement.floor, answer);
@@ -305,16 +342,12 @@ impl Decide {
         }
     }
 
-    // Whether an answer counts.
-    fn counts(&self, answer: &Answer) -> bool
-        requires { CanObserve self.now answer.now }
+    // Whether an answer of a point in a zone counts.
+    fn counts(&self, answer: &Answer, point: &PointWatch, zone: &ZoneWatch) -> bool
+        requires may { CanObserve self.now answer.now }
+        requires read { AreKeptOf self.now answer.now point.now zone.now }
         ensures { TellsCounted self.now answer.now result }
     {
-        if !matches!(answer.heard, Heard::Alarm) {
-            return false;
-        }
-        let point = &self.points[answer.point as usize];
-        let zone = &self.zones[point.zone as usize];
         let off = is_on(&point.off, answer.stamp);
         let zone_off = is_on(&zone.off, answer.stamp);
         let test = is_on(&zone.test, answer.stamp);
@@ -322,63 +355,16 @@ impl Decide {
     }
 
     // The last floor of a zone before a tick, which isn't earlier than the operations done.
-    fn floor_at(&self, zone: usize, x: Tick) -> Tick
+    fn floor_of(&self, zone: &ZoneWatch, x: Tick) -> Tick
+        ensures { TellsFloorOf self.now zone.now x.0 result.0 }
+    {
+        Tick(self.reset.before(x).0.max(zone.moved.before(x).0))
+    }
+
+    pub(crate) fn floor_at(&self, zone: usize, x: Tick) -> Tick
         requires { zone < length self.now.zones.items }
         ensures { TellsFloor self.now zone x.0 result.0 }
     {
-        Tick(
-            self.reset
-                .before(x)
-                .0
-                .max(self.zones[zone].moved.before(x).0),
-        )
-    }
-
-    // The latest answer of another point of a zone with this floor that makes a pair with this one.
-    fn second(&self, zone: usize, floor: Tick, answer: &Answer) -> Option<Tick>
-        requires { zone < length self.now.zones.items }
-        ensures { TellsSecond self.now zone floor.0 answer.now result }
-    {
-        let watch = &self.zones[zone];
-        after(
-            watch.bar(floor, answer.stamp),
-            watch.recent.besides(answer.point),
-        )
-    }
-
-    // The latest answer of a point of a zone's partner, where it has one, that makes a pair with this one.
-    fn partner_second(&self, partner: Option<u16>, answer: &Answer) -> Option<Tick>
-        requires { IsPlaceIn partner (length self.now.zones.items) }
-        ensures { TellsPartnerSecond self.now partner answer.now result }
-    {
-        match partner {
-            None => None,
-            Some(other) => {
-                let floor = self.floor_at(other as usize, answer.stamp);
-                self.second(other as usize, floor, answer)
-            }
-        }
-    }
-
-    // What an answer means for the partner of its zone.
-    fn partner_finding(&self, zone: &ZoneWatch, observation: &Observation) -> PartnerFinding
-        requires { IsPlaceIn zone.now.partner (length self.now.zones.items) }
-        ensures { TellsPartnerFinding self.now zone.now observation.now result }
-    {
-        match zone.partner {
-            None => PartnerFinding {
-                number: zone.number,
-                confirmed: false,
-                released: false,
-            },
-            Some(other) => {
-                let partner = &self.zones[other as usize];
-                PartnerFinding {
-                    number: partner.number,
-                    confirmed: observation.confirms_partner(partner.rule),
-                    released: observation.releases_partner(partner.rule),
-                }
-            }
-        }
+        self.floor_of(&self.zones[zone], x)
     }
 }

@@ -16,17 +16,22 @@
 //! The answers and operations themselves are not kept. Of a zone's answers the latest of two different points
 //! are enough, since a later one always serves where an earlier one would; of a point's own answers where its
 //! run of counted ones began; of an operation its tick and the value before. Quiet answers of points at rest,
-//! those whose last answer wasn't silent and didn't count, change nothing of it: a run of them is taken in one
-//! step. Each other answer costs the same, whatever the site. A turn takes no memory; only [`Decide::new`] does.
+//! those whose last answer wasn't silent and didn't count, change nothing of it, and so do silent answers of points
+//! that are missing already: a run of up to eight of them is taken in one step. Each other answer costs the same,
+//! whatever the site. A turn takes no memory; only [`Decide::new`] does.
 #![tactic(auto)]
 
 mod bits;
 mod decide;
+mod gathering;
 mod judgement;
 mod observation;
 mod partner_finding;
+mod partners;
+mod place_set;
 mod point_stamp;
 mod point_watch;
+mod point_watches;
 mod recent;
 mod rules;
 mod watches;

@@ -1,5 +1,5 @@
 ghost use Rattle.std.specs.Prelude.{◌≡◌, ◌≤◌};
-ghost use Rattle.coincidence.specs.Parts.{is_at_rest, point_begun, point_noted, switch_after};
+ghost use Rattle.coincidence.specs.Parts.{is_at_rest, point_begun, point_noted, stays_missing, switch_after};
 ghost use Rattle.site_types.specs.Profile.{missing_askings};
 
 use site_types::{Heard, Point};
@@ -57,6 +57,13 @@ impl PointWatch {
         self.silent == 0 && self.run.is_none()
     }
 
+    /// Whether its last answers were silent, as many as make it missing, so that a silent one leaves it as it is.
+    pub fn stays_missing(&self) -> bool
+        ensures { result ≡ stays_missing self.now }
+    {
+        self.silent == MISSING_ASKINGS && self.run.is_none()
+    }
+
     pub fn set_off(&mut self, off: bool, at: Tick)
         requires { self.old.off.since.0 < at.0 }
         ensures { self.new ≡ record self.old { off = switch_after off at self.old.off } }
@@ -92,13 +99,4 @@ fn run_after(run: Option<Tick>, counted: bool, floor: Tick, stamp: Tick) -> Opti
         Some(first) => if floor.0 < first.0 { run } else { Some(stamp) },
         None => Some(stamp),
     }
-}
-
-ghost use Rattle.std.specs.List.{list_all};
-
-/// Whether each of some points is at rest.
-pub fn are_all_at_rest(points: &[PointWatch]) -> bool
-    ensures { result ≡ list_all is_at_rest points.now }
-{
-    points.iter().all(|point| point.is_at_rest())
 }

@@ -3,6 +3,7 @@ ghost use Rattle.coincidence.specs.Parts.{switch_at};
 ghost use Rattle.coincidence_rules.specs.Kept.{is_type_C, after as after_tick};
 ghost use Rattle.coincidence_rules.specs.Counted.{is_alarm};
 
+use answer_lanes::{AnswerGroup, FindingGroup};
 use coincidence_rules::Finding;
 use site_types::{Answer, Heard, Rule};
 use tick_units::{Switch, Tick};
@@ -49,9 +50,11 @@ pub fn after(tick: Tick, stamp: Option<Tick>) -> Option<Tick>
     }
 }
 
+ghost use Rattle.std.specs.Prelude.{ℕ};
+ghost use Rattle.answer_lanes.specs.Points.{answer_at, finding_at};
 ghost use Rattle.coincidence.specs.Resting.{plain_of};
 
-/// What an answer means that tells of no zone, of a point that isn't missing.
+/// What an answer means that tells of no zone, of a point that is missing where it is silent.
 pub fn plain_finding(answer: &Answer) -> Finding
     ensures { result ≡ plain_of answer.now }
 {
@@ -62,6 +65,22 @@ pub fn plain_finding(answer: &Answer) -> Finding
         confirmed: 0,
         manual: 0,
         released: 0,
-        missing: false,
+        missing: matches!(answer.heard, Heard::Silent),
+    }
+}
+
+/// What the answers of a group mean that tell of no zone, of points that are missing where they are silent.
+pub fn plain_group(answers: &AnswerGroup) -> FindingGroup
+    ensures { (k : ℕ) → finding_at result k ≡ plain_of (answer_at answers.now k) }
+{
+    FindingGroup {
+        stamp: answers.stamp,
+        point: answers.point,
+        missing: answers.silent_bits(),
+        telling: 0,
+        counted: 0,
+        confirmed: 0,
+        manual: 0,
+        released: 0,
     }
 }

@@ -2,7 +2,7 @@
 
 ghost use Rattle.std.specs.Prelude.{◌≡◌};
 
-use answer_lanes::{Lane, Run};
+use answer_lanes::{AnswerGroup, Lane, Run};
 use anyhow::{Result, bail};
 use arrayvec::ArrayVec;
 use site_types::{Answer, Heard};
@@ -34,7 +34,7 @@ pub(crate) fn lane_lengths(alloc: Global, steps: &str) -> Result<String> {
 }
 
 // Puts the answers of 32 points.
-fn put_batch(lane: &mut Lane<Answer>) -> Result<()>
+fn put_batch(lane: &mut Lane<AnswerGroup>) -> Result<()>
     requires { (lane.old.quota ≡ 32) × (lane.old.capacity ≡ 64) }
     ensures { (lane.new.quota ≡ 32) × (lane.new.capacity ≡ 64) }
 {
@@ -52,10 +52,10 @@ fn put_batch(lane: &mut Lane<Answer>) -> Result<()>
 }
 
 // A turn of the taker.
-fn take_batch(lane: &mut Lane<Answer>)
+fn take_batch(lane: &mut Lane<AnswerGroup>)
     requires { (lane.old.quota ≡ 32) × (lane.old.capacity ≡ 64) }
     ensures { (lane.new.quota ≡ 32) × (lane.new.capacity ≡ 64) }
 {
-    let mut batch: ArrayVec<Run<Answer>, 32> = ArrayVec::new();
+    let mut batch: ArrayVec<Run<AnswerGroup>, 32> = ArrayVec::new();
     lane.take_turn(&mut batch);
 }

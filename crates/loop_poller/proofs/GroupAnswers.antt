@@ -1,7 +1,6 @@
 -- The answers of a group of points on a cable with nothing wrong are those of its states.
-use Rattle.std.proofs.Common.{◌≡◌, ℕ, zero, suc, ◌+◌, ◌-◌, ◌*◌, ◌/◌, ◌%◌, ◌<◌, ◌≤◌, List, ◌∷◌, All, length, map, min, Option, Some, None, true, false}
-use Rattle.std.proofs.Common.{◌==◌, slice_get, slice_index_or, refl, sym, ◌∙◌, ap, subst, arith, option_map, take, drop}
-use Rattle.std.proofs.lemmas.Bool.{ne_eqb}
+use Rattle.std.proofs.Common.{◌≡◌, ℕ, zero, suc, ◌+◌, ◌-◌, ◌*◌, ◌/◌, ◌%◌, ◌<◌, ◌≤◌, List, ◌∷◌, All, length, map, Option, Some, None, true}
+use Rattle.std.proofs.Common.{slice_get, slice_index_or, refl, sym, ◌∙◌, ap, subst, arith, option_map, take, drop}
 use Rattle.std.proofs.lemmas.List.{get_or-drop, get_or-take, length-drop, length-take}
 use Rattle.std.proofs.lemmas.List.Elements.{All-cons, All-head, All-nil, All-tail}
 use Rattle.std.proofs.lemmas.Nat.{mod_below}
@@ -20,7 +19,7 @@ use Rattle.loop_poller.specs.declared.polled_line.PolledLine.{PolledLine}
 use Rattle.loop_poller.specs.Asked.{answer_from, answer_of, asked_on, heard_of, is_reached_on, point_at}
 use Rattle.loop_poller.specs.Groups.{FollowFrom, IsWithin, group_answers, place_answer}
 use Rattle.loop_poller.specs.Stands.{AreStates, IsSoundGroup, LineStands}
-use Rattle.loop_poller.proofs.StateRuns.{same_map}
+use Rattle.loop_poller.proofs.GroupMasks.{same_map}
 use Rattle.loop_poller.proofs.Lines.{no_points, on_loop, point_there}
 use Rattle.loop_poller.proofs.Sound.{reaches_on}
 use Rattle.loop_poller.proofs.Windows.{asked_window, group_of, is_asked_here}
@@ -66,11 +65,7 @@ abbrev point_answer : ℕ → PointState → ℕ → Answer
 point_answer tick state point = record { stamp = record { 0 = tick }; point = point; heard = heard_of state true }
 
 place_told : (tick first : ℕ) (state : PointState) (i : ℕ) → first + i ≤ 65535 → place_answer tick first state i ≡ point_answer tick state (first + i)
-place_told tick first state zero few = ap (point_answer tick state) (omega arith)
-place_told tick first state (suc i) few =
-    let later : (suc i == 0) ≡ false = ne_eqb (suc i) 0 (λ e. absurd (omega (arith, e))) in
-    let place : min (first + suc i) 65535 ≡ first + suc i = omega (arith, few) in
-    rw later (ap (point_answer tick state) place)
+place_told tick first state i few = ap (point_answer tick state) (omega (arith, few))
 
 module _ (site : Site) (panel line : ℕ) (points : ℕ → PointState) (cables : ℕ → Cable) (tick : ℕ) (polled : PolledLine) (states : List PointState)
     (first : ℕ) (group : Group) (valid : IsValid site) (stands : LineStands site panel line (cables line) polled) (are : AreStates site points states)

@@ -7,8 +7,9 @@ pub mod Filling
 pub mod Lines
 -- what a turn puts into the lane
 pub mod Lanes
--- groups of points that are quiet, on a cable with nothing wrong
+-- groups of points that follow one another, on a cable with nothing wrong
 pub mod Sound
 pub mod FollowingPoints
-pub mod StateRuns
+pub mod RowPlaces
+pub mod GroupMasks
 pub mod GroupAnswers

@@ -1,12 +1,10 @@
 -- Points of a loop whose places in the site follow one another.
 use Rattle.std.specs.Prelude.{◌≡◌, ◌≤◌, ◌+◌, ◌-◌, ◌*◌, ℕ, true, List, Option, Some, None}
-use Rattle.std.specs.Prelude.{drop, length, map, slice_get, slice_index_or, take}
+use Rattle.std.specs.Prelude.{drop, length, map, min, slice_get, slice_index_or, take}
 use Rattle.std.specs.List.{filter_map, range_with_len}
 use Rattle.site_types.specs.declared.answer.Answer.{Answer}
 use Rattle.site_types.specs.declared.point_state.PointState.{PointState}
 use Rattle.site_types.specs.declared.point_state.PointState.TheVariants.{Quiet}
-use Rattle.answer_lanes.specs.Points.{answer_behind}
-use Rattle.answer_lanes.specs.Runs.{item_at}
 use Rattle.loop_poller.specs.declared.group.Group.{Group}
 use Rattle.loop_poller.specs.Asked.{heard_of}
 
@@ -27,8 +25,11 @@ AreGroups points groups = (number : ℕ) (group : Group) → slice_get groups nu
 -- what a point tells in a tick that lies so many places behind the first one of its group, is in this state, and is
 -- reached
 abbrev pub place_answer : ℕ → ℕ → PointState → ℕ → Answer
-place_answer tick first state place =
-    item_at answer_behind (record { stamp = record { 0 = tick }; point = first; heard = heard_of state true }) place
+place_answer tick first state place = record {
+  stamp = record { 0 = tick };
+  point = min (first + place) 65535;
+  heard = heard_of state true;
+}
 
 -- what points tell in a tick that follow one another from this one on, are in these states, and are reached
 abbrev pub state_answers : ℕ → ℕ → List PointState → List Answer

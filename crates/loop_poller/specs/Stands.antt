@@ -46,7 +46,7 @@ pub record StandsFor (site : Site) (panel : ℕ) (calls : List Call) (poller : P
   pub format : poller.profile.format ≡ site.format
   pub lines : (place : ℕ) (line : PolledLine) → slice_get poller.lines place ≡ Some line
       → LineStands site panel (place + 1) (told_cable calls (place + 1)) line
-  pub states : AreStates site (told_point calls) poller.states.items
+  pub states : AreStates site (told_point calls) poller.states
 
 -- a poller stands for some panel of a site
 pub record StandsForSome (poller : Poller) : Type 0 where
@@ -57,7 +57,7 @@ pub record StandsForSome (poller : Poller) : Type 0 where
 
 -- a poller has a state for this point
 abbrev pub HasPoint : Poller → ℕ → Type 0
-HasPoint poller point = point < length poller.states.items
+HasPoint poller point = point < length poller.states
 
 -- an address is one of its loop
 abbrev pub IsOnLoop : Option LoopPlan → ℕ → Type 0

@@ -6,16 +6,19 @@
 //! in its turn of a tick puts the answers of that tick into a lane, in order of loop, then address.
 //!
 //! Where the points at eight addresses stand one behind the other in the site and nothing is wrong with the cable,
-//! their answers are put in runs of points in the same state: one run where all are quiet.
+//! their answers are put as one group, whose masks tell which are in alarm and which are gone.
 //!
 //! [`Poller::new`] alone takes memory, and goes over the site's points once for each loop. Of each eight addresses
 //! of a loop it keeps six bytes besides the points: the place of the first one and how many there are, where they
-//! stand one behind the other. [`Poller::turn`] looks at 32 addresses, whatever the site's size.
+//! stand one behind the other; of each point of the site its state, and two bits that tell it too.
+//! [`Poller::turn`] looks at 32 addresses, whatever the site's size.
 #![tactic(auto)]
 
+mod bit_row;
 mod cables;
 mod group;
 mod groups;
+mod point_states;
 mod points;
 mod polled_line;
 mod poller;

@@ -10,8 +10,9 @@ ghost use Rattle.loop_poller.specs.Points.{KnowsPoints};
 use crate::cables::cable_of;
 use crate::group::Group;
 use crate::groups::groups_of;
+use crate::point_states::PointStates;
 use crate::points::points_of;
-use answer_lanes::Lane;
+use answer_lanes::{AnswerGroup, Lane};
 use isolators::{LineStatus, LoopLine};
 use site_types::{Answer, Heard, PieceState, PointState, Site};
 use std::alloc::{AllocError, Global};
@@ -109,7 +110,7 @@ impl PolledLine {
     }
 
     /// Puts the answers of eight addresses, from the first one on.
-    pub fn ask(&self, states: &[PointState], first: u8, now: Tick, answers: &mut Lane<Answer>)
+    pub fn ask(&self, states: &PointStates, first: u8, now: Tick, answers: &mut Lane<AnswerGroup>)
         requires room { HasRoom answers.old 8 }
         requires from { (1 ≤ first) × (first ≤ 185) }
         requires within { first + 7 ≤ length self.now.points.items }
@@ -126,7 +127,7 @@ impl PolledLine {
         }
         for address in first..first + 8 {
             if let Some(point) = self.points[address as usize - 1] {
-                let heard = self.heard(address, states[point as usize]);
+                let heard = self.heard(address, states.at(point));
                 answers.put(Answer {
                     stamp: now,
                     point,

@@ -6,10 +6,11 @@ ghost use Rattle.loop_poller.specs.Asked.{status_on};
 ghost use Rattle.site_types.specs.Things.{loop_of};
 ghost use Rattle.loop_poller.specs.Calls.{Call, Reported, Cabled, told_cable};
 
+use crate::point_states::PointStates;
 use crate::polled_line::PolledLine;
-use answer_lanes::Lane;
+use answer_lanes::{AnswerGroup, Lane};
 use isolators::LineStatus;
-use site_types::{Answer, PieceState, PointState, Profile, Site};
+use site_types::{PieceState, PointState, Profile, Site};
 use std::alloc::Global;
 use tick_units::{NoMemory, Tick};
 
@@ -18,8 +19,7 @@ use tick_units::{NoMemory, Tick};
 pub struct Poller {
     profile: Profile,
     lines: [PolledLine; 4],
-    /// By the place of a point in the site.
-    states: Vec<PointState>,
+    states: PointStates,
 }
 
 impl Poller {
@@ -37,7 +37,7 @@ impl Poller {
             PolledLine::new(alloc, site, panel, 3)?,
             PolledLine::new(alloc, site, panel, 4)?,
         ];
-        let states = vec![in alloc; PointState::Quiet; site.points.len()]?;
+        let states = PointStates::new(alloc, site.points.len())?;
         Ok(Poller {
             profile: site.profile(),
             lines,
@@ -52,7 +52,7 @@ impl Poller {
             → StandsFor site panel calls self.old
             → StandsFor site panel (Reported point state ∷ calls) self.new }
     {
-        self.states[point as usize] = state;
+        self.states.set(point, state);
     }
 
     /// Takes a report on a piece of the cable of a loop, 1 to 4.
@@ -77,7 +77,7 @@ impl Poller {
     }
 
     /// Puts the answers of a tick: at most 32, in order of loop, then address.
-    pub fn turn(&self, now: Tick, answers: &mut Lane<Answer>)
+    pub fn turn(&self, now: Tick, answers: &mut Lane<AnswerGroup>)
         requires room { HasRoom answers.old 32 }
         requires stands { StandsForSome self.now }
         ensures asked { PutsAnswers self.now now.0 answers.old answers.new }

@@ -19,6 +19,14 @@ latest-push test (g ∷ taken) f =
     ap (λ n. max (if test g then g.stamp.0 else 0) n) (latest-push test taken f)
     ∙ max-assoc (if test g then g.stamp.0 else 0) (latest_stamp test taken) (if test f then f.stamp.0 else 0)
 
+-- with more findings
+pub latest-append : (test : Finding → Bool) (taken more : List Finding)
+    → latest_stamp test (taken ++ more) ≡ max (latest_stamp test taken) (latest_stamp test more)
+latest-append test [] more = omega arith
+latest-append test (g ∷ taken) more =
+    ap (λ n. max (if test g then g.stamp.0 else 0) n) (latest-append test taken more)
+    ∙ max-assoc (if test g then g.stamp.0 else 0) (latest_stamp test taken) (latest_stamp test more)
+
 stamp_max : (on : Bool) (stamp latest : Tick) → (stamp_if on stamp latest).0 ≡ max latest.0 (if on then stamp.0 else 0)
 stamp_max false stamp latest = omega arith
 stamp_max true stamp latest = elim (lt_tells latest.0 stamp.0) [

@@ -15,6 +15,7 @@ pub mod Drawn
 pub mod AlreadyShown
 pub mod BeforeOperation
 pub mod Unchanged
+pub mod Alike
 -- findings that stand in runs
 pub mod Runs
 -- the whole part: at first, and after a turn or an operation

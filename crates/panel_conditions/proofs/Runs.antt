@@ -1,115 +1,232 @@
--- Runs of findings: those that change nothing, and what is taken of several runs.
-use Rattle.std.proofs.Common.{◌≡◌, ◌∙◌, ◌++◌, ◌∷◌, ◌+◌, ◌-◌, ◌<◌, ◌≤◌, ◌==◌, [], Bool, drop, List, None, Option, Some}
-use Rattle.std.proofs.Common.{true, false, inl, inr, length, map, min, option_map, slice_get, take, zero, suc, ℕ, if◌then◌else◌, get_or}
+-- What is taken of the findings of a group, and of several runs.
+use Rattle.std.proofs.Common.{◌≡◌, ◌∙◌, ◌++◌, ◌∷◌, ◌+◌, ◌-◌, ◌<◌, ◌≤◌, ◌&&◌, inl, inr, [], Bool, drop, List, None, Option, Some, not}
+use Rattle.std.proofs.Common.{true, false, length, map, max, min, slice_get, take, zero, suc, ℕ, if◌then◌else◌, get_or}
 use Rattle.std.proofs.Common.{refl, sym, ap, subst, arith, append_assoc, append-nil}
 use Rattle.std.specs.List.{range_with_len, slice_range}
 use Rattle.std.proofs.lemmas.List.{map-append, take_more}
-use Rattle.std.proofs.lemmas.Bool.Decides.{eqb_tells}
 use Rattle.circular_buffer.proofs.Places.{slice_get-drop}
 use Rattle.site_types.specs.Bits.{has_bit}
 use Rattle.site_types.specs.declared.site.Site.{Site}
 use Rattle.site_types.specs.declared.retained.Retained.{Retained}
 use Rattle.site_types.specs.Done.{Done}
+use Rattle.site_types.proofs.Done.{lt_tells}
 use Rattle.site_types.proofs.Masks.{has_bit-zero}
 use Rattle.coincidence_rules.specs.declared.finding.Finding.{Finding}
 use Rattle.coincidence_rules.proofs.Lists.{get_take}
+use Rattle.answer_lanes.specs.declared.finding_group.FindingGroup.{FindingGroup}
 use Rattle.answer_lanes.specs.declared.run.Run.{Run}
-use Rattle.answer_lanes.specs.Points.{finding_behind}
-use Rattle.answer_lanes.specs.Runs.{all_items, item_at, items_of}
+use Rattle.answer_lanes.specs.Points.{finding_at, mask_if}
+use Rattle.answer_lanes.specs.Runs.{all_items, items_of}
 use Rattle.answer_lanes.proofs.Moving.{items_more, range_parts}
-use Rattle.panel_conditions.specs.declared.hold.Hold.{Hold}
+use Rattle.panel_conditions.specs.declared.points.Points.{Points}
 use Rattle.panel_conditions.specs.declared.zone_watch.ZoneWatch.{ZoneWatch}
-use Rattle.panel_conditions.specs.Parts.{told_by, zone_taken}
-use Rattle.panel_conditions.specs.Stands.{AreTold, Watches}
-use Rattle.panel_conditions.proofs.Drawn.{untold}
-use Rattle.panel_conditions.proofs.Watched.{points_again, zones_more}
+use Rattle.panel_conditions.specs.Stands.{AreTold, WatchesPoints, WatchesZone, WatchesZones, latest_stamp}
+use Rattle.panel_conditions.proofs.Latest.{latest-append}
+use Rattle.panel_conditions.proofs.Watched.{points_again}
 
--- ---- findings that change nothing
+-- ---- the latest stamp that a group's findings tell
 
--- a finding that tells of no zone leaves what is kept of each
-stays_untold : (f : Finding) → told_by f ≡ 0 → (o : Option ZoneWatch) → o ≡ option_map (zone_taken f) o
-stays_untold f none None = refl
-stays_untold f none (Some watch) =
-    ap (λ w. Some w) (sym (untold f watch (ap (λ m. has_bit m watch.bit) none ∙ has_bit-zero watch.bit)))
+-- where each finding of a group passes a test exactly if it tells of zones and something holds of all
+module _ (group : FindingGroup) (test : Finding → Bool) (base : Bool) (is :
+    (place : ℕ) → test (finding_at group place) ≡ (has_bit group.telling place && base)) where
+  abbrev bound : ℕ
+  bound = if base then group.stamp.0 else 0
 
--- a finding that tells of no zone, and of its point what the last one told
-watches_again : (site : Site) (kept : Retained) (panel : ℕ) (done : List Done) (taken : List Finding) (f : Finding) (hold : Hold) → told_by f ≡ 0
-    → slice_get hold.points.told.items f.point ≡ Some f.missing →
-    Watches site kept panel done taken hold → Watches site kept panel done (taken ++ f ∷ []) hold
-watches_again site kept panel done taken f hold none told h = record {
-  zones =
-      zones_more site panel done taken f hold.zones.watches.items hold.zones.watches.items refl
-      (λ k. stays_untold f none (slice_get hold.zones.watches.items k)) h.zones;
-  points = points_again site kept panel done taken f hold.points told h.points;
-  muted = h.muted;
-}
+  -- one that tells makes the bound
+  told_one : (place : ℕ) → has_bit group.telling place ≡ true → (if test (finding_at group place) then group.stamp.0 else 0) ≡ bound
+  told_one place tells = ap (λ b. if b then group.stamp.0 else 0) (is place ∙ ap (λ b. b && base) tells)
 
--- an item of a run tells of zones, and of missing, what the first one does
-item_zones : (first : Finding) (place : ℕ) → told_by (item_at finding_behind first place) ≡ told_by first
-item_zones first place = either (place == 0)
+  -- none makes more
+  one_most : (place : ℕ) → (if test (finding_at group place) then group.stamp.0 else 0) ≤ bound
+  one_most place = subst (λ b. (if b then group.stamp.0 else 0) ≤ bound) (sym (is place)) (by (has_bit group.telling place) base)
+    where
+      by : (tells base : Bool) → (if tells && base then group.stamp.0 else 0) ≤ (if base then group.stamp.0 else 0)
+      by true base = omega arith
+      by false base = omega arith
+
+  latest_next : (from count : ℕ) → latest_stamp test (map (finding_at group) (range_with_len from (suc count)))
+      ≡ max (if test (finding_at group from) then group.stamp.0 else 0) (latest_stamp test (map (finding_at group) (range_with_len (from + 1) count)))
+  latest_next from count = refl
+
+  latest_most : (from count : ℕ) → latest_stamp test (map (finding_at group) (range_with_len from count)) ≤ bound
+  latest_most from zero = omega arith
+  latest_most from (suc count) =
+      let next = latest_next from count in
+      let one = one_most from in
+      let rest = latest_most (from + 1) count in
+      omega (arith, next, one, rest)
+
+  latest_least : (from count place : ℕ) → from ≤ place → place < from + count → has_bit group.telling place ≡ true
+      → bound ≤ latest_stamp test (map (finding_at group) (range_with_len from count))
+  latest_least from zero place le less tells = absurd (omega (arith, le, less))
+  latest_least from (suc count) place le less tells = elim (lt_tells from place) [
+    | inl later ↦ (let up = later.1 in let rest = latest_least (from + 1) count place (omega (arith, up)) (omega (arith, less)) tells in
+        let next = latest_next from count in omega (arith, next, rest))
+    | inr first ↦ (let down = first.1 in let here : place ≡ from = omega (arith, down, le) in
+        let one = told_one from (ap (has_bit group.telling) (sym here) ∙ tells) in let next = latest_next from count in omega (arith, next, one))
+  ]
+
+  none_one : (place : ℕ) → has_bit group.telling place ≡ false → (if test (finding_at group place) then group.stamp.0 else 0) ≡ 0
+  none_one place none = ap (λ b. if b then group.stamp.0 else 0) (is place ∙ ap (λ b. b && base) none)
+
+  pub latest_none : (from count : ℕ) → ((k : ℕ) → k < count → has_bit group.telling (from + k) ≡ false)
+      → latest_stamp test (map (finding_at group) (range_with_len from count)) ≡ 0
+  latest_none from zero none = refl
+  latest_none from (suc count) none =
+      let next = latest_next from count in
+      let start : from + 0 ≡ from = omega arith in
+      let one = none_one from (ap (has_bit group.telling) (sym start) ∙ none 0 (omega arith)) in
+      let rest =
+      latest_none (from + 1) count (λ k less. (let there : from + (k + 1) ≡ from + 1 + k = omega arith in
+      ap (has_bit group.telling) (sym there) ∙ none (k + 1) (omega (arith, less)))) in
+      omega (arith, next, one, rest)
+
+  -- one that tells is as good as all
+  pub latest_one : (from count place : ℕ) → from ≤ place → place < from + count → has_bit group.telling place ≡ true
+      → latest_stamp test (finding_at group place ∷ []) ≡ latest_stamp test (map (finding_at group) (range_with_len from count))
+  latest_one from count place le less tells =
+      let one = told_one place tells in
+      let most = latest_most from count in
+      let least = latest_least from count place le less tells in
+      omega (arith, one, most, least)
+
+-- ---- all that is kept of zones goes by the latest stamps
+
+-- two lists of findings have the same of them
+record SameStamps (one other : List Finding) : Type 0 where
+  confirmed : (k : ℕ) → latest_stamp (λ f. has_bit f.confirmed k) one ≡ latest_stamp (λ f. has_bit f.confirmed k) other
+  called : (k : ℕ) → latest_stamp (λ f. has_bit f.manual k) one ≡ latest_stamp (λ f. has_bit f.manual k) other
+  released : (k : ℕ) → latest_stamp (λ f. has_bit f.released k) one ≡ latest_stamp (λ f. has_bit f.released k) other
+  told : (k : ℕ) → latest_stamp (λ f. has_bit f.counted k && not (has_bit f.manual k)) one
+      ≡ latest_stamp (λ f. has_bit f.counted k && not (has_bit f.manual k)) other
+
+zones_as : (site : Site) (panel : ℕ) (done : List Done) (taken one other : List Finding) (watches : List ZoneWatch) → SameStamps one other
+    → WatchesZones site panel done (taken ++ one) watches → WatchesZones site panel done (taken ++ other) watches
+zones_as site panel done taken one other watches same h =
+    record { count = h.count; each = λ k watch is. still k watch (h.each k watch is) }
   where
-    either : (b : Bool) → told_by (if b then first else finding_behind first place) ≡ told_by first
-    either true = refl
-    either false = refl
+    behind : (test : Finding → Bool) → latest_stamp test one ≡ latest_stamp test other → latest_stamp test (taken ++ one) ≡ latest_stamp test (taken ++ other)
+    behind test e = latest-append test taken one ∙ ap (λ n. max (latest_stamp test taken) n) e ∙ sym (latest-append test taken other)
 
-item_missing : (first : Finding) (place : ℕ) → (item_at finding_behind first place).missing ≡ first.missing
-item_missing first place = either (place == 0)
-  where
-    either : (b : Bool) → (if b then first else finding_behind first place).missing ≡ first.missing
-    either true = refl
-    either false = refl
+    still : (k : ℕ) (watch : ZoneWatch) → WatchesZone site panel done (taken ++ one) k watch → WatchesZone site panel done (taken ++ other) k watch
+    still k watch w = record {
+      place = w.place;
+      bit = w.bit;
+      within = w.within;
+      floor = w.floor;
+      cancelled = w.cancelled;
+      confirmed = w.confirmed ∙ behind (λ f. has_bit f.confirmed k) (same.confirmed k);
+      called = w.called ∙ behind (λ f. has_bit f.manual k) (same.called k);
+      released = w.released ∙ behind (λ f. has_bit f.released k) (same.released k);
+      told = w.told ∙ behind (λ f. has_bit f.counted k && not (has_bit f.manual k)) (same.told k);
+    }
 
--- all items of a run change nothing
-module _ (site : Site) (kept : Retained) (panel : ℕ) (done : List Done) (hold : Hold) (first : Finding) (none : told_by first ≡ 0) where
+-- a mask that is told where a group tells has its bits there
+bit_if : (tells : Bool) (mask k : ℕ) → has_bit (mask_if tells mask) k ≡ (tells && has_bit mask k)
+bit_if true mask k = refl
+bit_if false mask k = has_bit-zero k
+
+bits_if : (tells : Bool) (counted manual k : ℕ)
+    → (has_bit (mask_if tells counted) k && not (has_bit (mask_if tells manual) k)) ≡ (tells && (has_bit counted k && not (has_bit manual k)))
+bits_if true counted manual k = refl
+bits_if false counted manual k = ap (λ b. b && not (has_bit 0 k)) (has_bit-zero k)
+
+module _ (group : FindingGroup) (from count : ℕ) where
+  abbrev items : List Finding
+  items = map (finding_at group) (range_with_len from count)
+
+  same_as_one : (place : ℕ) → from ≤ place → place < from + count → has_bit group.telling place ≡ true → SameStamps (finding_at group place ∷ []) items
+  same_as_one place le less tells = record {
+    confirmed = λ k. latest_one group (λ f. has_bit f.confirmed k) (has_bit group.confirmed k) (λ p. bit_if (has_bit group.telling p) group.confirmed k)
+        from count place le less tells;
+    called = λ k. latest_one group (λ f. has_bit f.manual k) (has_bit group.manual k) (λ p. bit_if (has_bit group.telling p) group.manual k)
+        from count place le less tells;
+    released = λ k. latest_one group (λ f. has_bit f.released k) (has_bit group.released k) (λ p. bit_if (has_bit group.telling p) group.released k)
+        from count place le less tells;
+    told = λ k. latest_one group (λ f. has_bit f.counted k && not (has_bit f.manual k)) (has_bit group.counted k && not (has_bit group.manual k))
+        (λ p. bits_if (has_bit group.telling p) group.counted group.manual k) from count place le less tells;
+  }
+
+  same_as_none : ((k : ℕ) → k < count → has_bit group.telling (from + k) ≡ false) → SameStamps [] items
+  same_as_none none = record {
+    confirmed = λ k. sym (latest_none group (λ f. has_bit f.confirmed k) (has_bit group.confirmed k) (λ p. bit_if (has_bit group.telling p) group.confirmed k)
+        from count none);
+    called = λ k. sym (latest_none group (λ f. has_bit f.manual k) (has_bit group.manual k) (λ p. bit_if (has_bit group.telling p) group.manual k)
+        from count none);
+    released = λ k. sym (latest_none group (λ f. has_bit f.released k) (has_bit group.released k) (λ p. bit_if (has_bit group.telling p) group.released k)
+        from count none);
+    told = λ k. sym (latest_none group (λ f. has_bit f.counted k && not (has_bit f.manual k)) (has_bit group.counted k && not (has_bit group.manual k))
+        (λ p. bits_if (has_bit group.telling p) group.counted group.manual k) from count none);
+  }
+
+-- a run is taken by one of its findings that tells
+pub taken_by_one : (site : Site) (panel : ℕ) (done : List Done) (taken : List Finding) (run : Run FindingGroup) (place : ℕ) (watches : List ZoneWatch)
+    → run.taken ≤ place → place < run.taken + run.count → has_bit run.first.telling place ≡ true
+    → WatchesZones site panel done (taken ++ finding_at run.first place ∷ []) watches
+    → WatchesZones site panel done (taken ++ items_of finding_at run) watches
+taken_by_one site panel done taken run place watches le less tells h =
+    zones_as site panel done taken (finding_at run.first place ∷ []) (items_of finding_at run) watches
+    (same_as_one run.first run.taken run.count place le less tells) h
+
+-- or by none where none tells
+pub taken_by_none : (site : Site) (panel : ℕ) (done : List Done) (taken : List Finding) (run : Run FindingGroup) (watches : List ZoneWatch)
+    → ((k : ℕ) → k < run.count → has_bit run.first.telling (run.taken + k) ≡ false)
+    → WatchesZones site panel done taken watches → WatchesZones site panel done (taken ++ items_of finding_at run) watches
+taken_by_none site panel done taken run watches none h =
+    zones_as site panel done taken [] (items_of finding_at run) watches (same_as_none run.first run.taken run.count none)
+    (subst (λ l. WatchesZones site panel done l watches) (sym (append-nil taken)) h)
+
+-- ---- points of which nothing new is told
+
+module _ (site : Site) (kept : Retained) (panel : ℕ) (done : List Done) (points : Points) (group : FindingGroup) where
   all_again : (from count : ℕ) (taken : List Finding)
       → ((place : ℕ) → from ≤ place → place < from + count
-      → slice_get hold.points.told.items (item_at finding_behind first place).point ≡ Some first.missing)
-      → Watches site kept panel done taken hold
-      → Watches site kept panel done (taken ++ map (item_at finding_behind first) (range_with_len from count)) hold
-  all_again from zero taken told h = subst (λ l. Watches site kept panel done l hold) (sym (append-nil taken)) h
+      → slice_get points.told.items (finding_at group place).point ≡ Some (has_bit group.missing place))
+      → WatchesPoints site kept panel done taken points
+      → WatchesPoints site kept panel done (taken ++ map (finding_at group) (range_with_len from count)) points
+  all_again from zero taken told h = subst (λ l. WatchesPoints site kept panel done l points) (sym (append-nil taken)) h
   all_again from (suc count) taken told h =
-      let item = item_at finding_behind first from in
-      subst (λ l. Watches site kept panel done l hold)
-      (append_assoc taken (item ∷ []) (map (item_at finding_behind first) (range_with_len (from + 1) count)))
+      let item = finding_at group from in
+      subst (λ l. WatchesPoints site kept panel done l points)
+      (append_assoc taken (item ∷ []) (map (finding_at group) (range_with_len (from + 1) count)))
       (all_again (from + 1) count (taken ++ item ∷ []) (λ place le less. told place (omega (arith, le)) (omega (arith, less)))
-      (watches_again site kept panel done taken item hold (item_zones first from ∙ none)
-      (told from (omega arith) (omega arith) ∙ ap (λ b. Some b) (sym (item_missing first from))) h))
+      (points_again site kept panel done taken item points (told from (omega arith) (omega arith)) h))
 
-pub run_again : (site : Site) (kept : Retained) (panel : ℕ) (done : List Done) (taken : List Finding) (run : Run Finding) (hold : Hold)
-    → told_by run.first ≡ 0 → AreTold hold.points.told.items run →
-    Watches site kept panel done taken hold → Watches site kept panel done (taken ++ items_of finding_behind run) hold
-run_again site kept panel done taken run hold none told h =
-    all_again site kept panel done hold run.first none run.taken run.count taken told h
+pub run_again : (site : Site) (kept : Retained) (panel : ℕ) (done : List Done) (taken : List Finding) (run : Run FindingGroup) (points : Points)
+    → AreTold points.told.items run →
+    WatchesPoints site kept panel done taken points → WatchesPoints site kept panel done (taken ++ items_of finding_at run) points
+run_again site kept panel done taken run points told h = all_again site kept panel done points run.first run.taken run.count taken told h
 
 -- the marks of a run's points stand in a range of all marks
-pub told_in : (marks among part : List Bool) (run : Run Finding) (start end : ℕ) → start ≡ run.first.point + run.taken → end ≡ start + run.count
+pub told_in : (marks among part : List Bool) (run : Run FindingGroup) (start end : ℕ) → start ≡ run.first.point + run.taken → end ≡ start + run.count
     → end ≤ 65536 → among ≡ marks → part ≡ slice_range among start end → length part + start ≡ end
-    → ((k : ℕ) → k < length part → slice_get part k ≡ Some run.first.missing) → AreTold marks run
+    → ((k : ℕ) → k < length part → slice_get part k ≡ Some (has_bit run.first.missing (run.taken + k))) → AreTold marks run
 told_in marks among part run start end begins ends most same is count are place from below =
     ap (slice_get marks) at
     ∙ go (are (place - run.taken) (omega (arith, begins, ends, count, from, below)))
+    ∙ ap (λ p. Some (has_bit run.first.missing p)) again
   where
-    at : (item_at finding_behind run.first place).point ≡ start + (place - run.taken)
-    at = elim (eqb_tells place 0) [
-      | inl first ↦ (let e = first.1 in ap (λ b. (if b then run.first else finding_behind run.first place).point) first.0
-          ∙ (let here : run.first.point ≡ start + (place - run.taken) = omega (arith, e, begins, from) in here))
-      | inr later ↦ ap (λ b. (if b then run.first else finding_behind run.first place).point) later.0
-          ∙ (let here : min (run.first.point + place) 65535 ≡ start + (place - run.taken) = omega (arith, begins, ends, most, from, below) in here)
-    ]
+    at : (finding_at run.first place).point ≡ start + (place - run.taken)
+    at = (let here : min (run.first.point + place) 65535 ≡ start + (place - run.taken) = omega (arith, begins, ends, most, from, below) in here)
 
-    go : slice_get part (place - run.taken) ≡ Some run.first.missing → slice_get marks (start + (place - run.taken)) ≡ Some run.first.missing
+    again : run.taken + (place - run.taken) ≡ place
+    again = omega (arith, from)
+
+    go : slice_get part (place - run.taken) ≡ Some (has_bit run.first.missing (run.taken + (place - run.taken)))
+        → slice_get marks (start + (place - run.taken)) ≡ Some (has_bit run.first.missing (run.taken + (place - run.taken)))
     go h =
         sym (slice_get-drop start marks (place - run.taken) (start + (place - run.taken)) refl)
-        ∙ (get_take (end - start) (place - run.taken) (drop start marks) run.first.missing (ap (λ l. slice_get l (place - run.taken)) (sym (is ∙ ap (λ l. slice_range l start end) same)) ∙ h)).1
+        ∙ (get_take (end - start) (place - run.taken) (drop start marks) (has_bit run.first.missing (run.taken + (place - run.taken)))
+        (ap (λ l. slice_get l (place - run.taken)) (sym (is ∙ ap (λ l. slice_range l start end) same)) ∙ h)).1
 
 -- ---- what is taken
 
 -- one more item of a run
-pub items_then : (first : Finding) (from place : ℕ) → from ≤ place →
-    map (item_at finding_behind first) (range_with_len from (place + 1 - from))
-    ≡ map (item_at finding_behind first) (range_with_len from (place - from)) ++ item_at finding_behind first place ∷ []
-items_then first from place le =
-    let item = item_at finding_behind first in
+items_then : (group : FindingGroup) (from place : ℕ) → from ≤ place →
+    map (finding_at group) (range_with_len from (place + 1 - from))
+    ≡ map (finding_at group) (range_with_len from (place - from)) ++ finding_at group place ∷ []
+items_then group from place le =
+    let item = finding_at group in
     let count : place + 1 - from ≡ (place - from) + 1 = omega (arith, le) in
     let last : from + (place - from) ≡ place = omega (arith, le) in
     ap (λ n. map item (range_with_len from n)) count ∙ ap (map item) (range_parts from (place - from) 1)
@@ -117,20 +234,28 @@ items_then first from place le =
     ∙ ap (λ n. map item (range_with_len from (place - from)) ++ item n ∷ []) last
 
 -- one more item of a run, behind those taken before
-pub item_more : (P : List Finding → Type 0) (taken : List Finding) (run : Run Finding) (place : ℕ) (f : Finding) → run.taken ≤ place
-    → f ≡ item_at finding_behind run.first place
-    → P ((taken ++ map (item_at finding_behind run.first) (range_with_len run.taken (place - run.taken))) ++ f ∷ [])
-    → P (taken ++ map (item_at finding_behind run.first) (range_with_len run.taken (place + 1 - run.taken)))
+pub item_more : (P : List Finding → Type 0) (taken : List Finding) (run : Run FindingGroup) (place : ℕ) (f : Finding) → run.taken ≤ place
+    → f ≡ finding_at run.first place
+    → P ((taken ++ map (finding_at run.first) (range_with_len run.taken (place - run.taken))) ++ f ∷ [])
+    → P (taken ++ map (finding_at run.first) (range_with_len run.taken (place + 1 - run.taken)))
 item_more P taken run place f le is h =
-    let before = map (item_at finding_behind run.first) (range_with_len run.taken (place - run.taken)) in
+    let before = map (finding_at run.first) (range_with_len run.taken (place - run.taken)) in
     subst P (append_assoc taken before (f ∷ []) ∙ ap (λ g. taken ++ (before ++ g ∷ [])) is
     ∙ ap (λ l. taken ++ l) (sym (items_then run.first run.taken place le))) h
 
 -- one more run
-pub run_more : (P : List Finding → Type 0) (taken : List Finding) (runs : List (Run Finding)) (k : ℕ) (d : Run Finding) → k < length runs
-    → P ((taken ++ all_items finding_behind (take k runs)) ++ items_of finding_behind (get_or runs k d))
-    → P (taken ++ all_items finding_behind (take (k + 1) runs))
+pub run_more : (P : List Finding → Type 0) (taken : List Finding) (runs : List (Run FindingGroup)) (k : ℕ) (d : Run FindingGroup) → k < length runs
+    → P ((taken ++ all_items finding_at (take k runs)) ++ items_of finding_at (get_or runs k d))
+    → P (taken ++ all_items finding_at (take (k + 1) runs))
 run_more P taken runs k d small h =
     let run = get_or runs k d in
-    subst P (append_assoc taken (all_items finding_behind (take k runs)) (items_of finding_behind run)
-    ∙ ap (λ l. taken ++ l) (sym (ap (all_items finding_behind) (take_more runs k d small) ∙ items_more finding_behind (take k runs) run))) h
+    subst P (append_assoc taken (all_items finding_at (take k runs)) (items_of finding_at run)
+    ∙ ap (λ l. taken ++ l) (sym (ap (all_items finding_at) (take_more runs k d small) ∙ items_more finding_at (take k runs) run))) h
+
+-- read from a list that is the same
+pub run_then : (P : List Finding → Type 0) (taken : List Finding) (runs read : List (Run FindingGroup)) (k : ℕ) (d : Run FindingGroup) → read ≡ runs → k < length runs
+    → P ((taken ++ all_items finding_at (take k runs)) ++ items_of finding_at (get_or read k d))
+    → P (taken ++ all_items finding_at (take (k + 1) runs))
+run_then P taken runs read k d same small h =
+    run_more P taken runs k d small
+    (subst (λ l. P ((taken ++ all_items finding_at (take k runs)) ++ items_of finding_at (get_or l k d))) same h)

@@ -142,9 +142,7 @@ module _ {site : Site} {kept : Retained} {panel : ℕ} {done : List Done} {taken
       let moved = same.moved in
       let later : hold.zones.moved.0 < tick = omega (arith, moved, since) in
       let missing : points_shown tick hold.points ≡ was.faults.missing =
-      points_are tick stays.by later
-      ∙ ap (λ m. set_without (set_without m hold.points.off.after) hold.points.zone_off.after) same.missing
-      ∙ stays.missing same.moved
+      points_are tick stays.by later ∙ stays.missing same.missing same.moved
       in
       let faults : faults_now tick outside hold ≡ was.faults =
       ap (λ m. with_missing m outside) missing ∙ ap (with_missing was.faults.missing) same.outside_is
@@ -165,17 +163,15 @@ module _ {site : Site} {kept : Retained} {panel : ℕ} {done : List Done} {taken
 
   -- and stays so
   pub stays_now : (tick : ℕ) (outside : Outside) (after : Hold) → AreBy hold.zones.moved.0 done → after.shown ≡ shown_now tick outside hold
-      → after.missing ≡ hold.points.missing →
-      after.zones ≡ hold.zones → after.points ≡ hold.points → after.muted ≡ hold.muted → ShownStays done after
-  stays_now tick outside after by shown missing zones points muted =
+      → after.zones ≡ hold.zones → after.points ≡ record hold.points { changed = false } → after.muted ≡ hold.muted → ShownStays done after
+  stays_now tick outside after by shown zones points muted =
       let moved : after.zones.moved.0 ≡ hold.zones.moved.0 = ap (λ z. z.moved.0) zones in
       let stamp : after.shown.word.stamp.0 ≡ tick = ap (λ s. s.word.stamp.0) shown in
       record {
         by = subst (λ n. AreBy n done) (sym moved) by;
         fault = ap (λ s. s.word.fault) shown ∙ sym (ap (λ s. has_fault s.faults) shown);
-        missing = λ lt.
-            ap (λ p. set_without (set_without after.missing p.off.after) p.zone_off.after) points
-            ∙ ap (λ m. set_without (set_without m hold.points.off.after) hold.points.zone_off.after) missing
+        missing = λ same lt.
+            ap (λ p. set_without (set_without p.missing p.off.after) p.zone_off.after) points
             ∙ sym (points_are tick by (omega (arith, lt, moved, stamp)))
             ∙ sym (ap (λ s. s.faults.missing) shown);
         buzzer = λ lt.
@@ -194,18 +190,18 @@ stays_first hold shown =
     record {
       by = tt;
       fault = ap (λ s. s.word.fault) shown ∙ sym (ap (λ s. has_fault s.faults) shown);
-      missing = λ lt. absurd (omega (arith, lt, stamp));
+      missing = λ same lt. absurd (omega (arith, lt, stamp));
       buzzer = λ lt. absurd (omega (arith, lt, stamp));
     }
 
 pub takes_none : (hold : Hold) → TakesFindings hold hold
-takes_none hold = record { shown = refl; missing = refl; moved = refl; off = refl; zone_off = refl; muted = refl }
+takes_none hold = record { shown = refl; missing = λ same. (same, refl); moved = refl; off = refl; zone_off = refl; muted = refl }
 
 pub takes_more : (first amid last : Hold) → TakesFindings first amid → TakesFindings amid last → TakesFindings first last
 takes_more first amid last a b =
     record {
       shown = b.shown ∙ a.shown;
-      missing = b.missing ∙ a.missing;
+      missing = λ same. let later = b.missing same in let earlier = a.missing later.0 in (earlier.0, later.1 ∙ earlier.1);
       moved = b.moved ∙ a.moved;
       off = b.off ∙ a.off;
       zone_off = b.zone_off ∙ a.zone_off;
@@ -219,11 +215,11 @@ stays_taken done before after takes h =
     record {
       by = subst (λ n. AreBy n done) (sym moved) h.by;
       fault = ap (λ s. s.word.fault) takes.shown ∙ h.fault ∙ sym (ap (λ s. has_fault s.faults) takes.shown);
-      missing = λ lt.
-          ap (λ m. set_without (set_without m after.points.off.after) after.points.zone_off.after) takes.missing
-          ∙ ap (λ o. set_without (set_without before.missing o.after) after.points.zone_off.after) takes.off
-          ∙ ap (λ o. set_without (set_without before.missing before.points.off.after) o.after) takes.zone_off
-          ∙ h.missing (omega (arith, lt, moved, stamp))
+      missing = λ same lt.
+          ap (λ m. set_without (set_without m after.points.off.after) after.points.zone_off.after) (takes.missing same).1
+          ∙ ap (λ o. set_without (set_without before.points.missing o.after) after.points.zone_off.after) takes.off
+          ∙ ap (λ o. set_without (set_without before.points.missing before.points.off.after) o.after) takes.zone_off
+          ∙ h.missing (takes.missing same).0 (omega (arith, lt, moved, stamp))
           ∙ sym (ap (λ s. s.faults.missing) takes.shown);
       buzzer = λ lt.
           ap (λ s. s.buzzer) takes.shown
@@ -247,7 +243,7 @@ stays_done done d at was after tick moved shown turned h =
     record {
       by = (omega (arith, tick, right, now), by_later done was.zones.moved.0 after.zones.moved.0 (omega (arith, left, now)) h.by);
       fault = ap (λ s. s.word.fault) shown ∙ h.fault ∙ sym (ap (λ s. has_fault s.faults) shown);
-      missing = λ lt. absurd (omega (arith, lt, right, now, stamp, turned));
+      missing = λ same lt. absurd (omega (arith, lt, right, now, stamp, turned));
       buzzer = λ lt. absurd (omega (arith, lt, right, now, stamp, turned));
     }
 
@@ -272,6 +268,6 @@ pub drawn : {site : Site} {kept : Retained} {panel : ℕ} {done : List Done} {ta
 drawn {site} {panel = panel} {done = done} {taken = taken} was zones h stays watches moved = record {
   watches = record { zones = subst (WatchesZones site panel done taken) (sym watches) h.zones; points = h.points; muted = h.muted };
   stays =
-      stays_taken done was (record was { zones = zones }) (record { shown = refl; missing = refl; moved = moved; off = refl; zone_off = refl; muted = refl })
+      stays_taken done was (record was { zones = zones }) (record { shown = refl; missing = λ same. (same, refl); moved = moved; off = refl; zone_off = refl; muted = refl })
       stays;
 }

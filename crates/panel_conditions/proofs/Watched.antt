@@ -21,12 +21,11 @@ use Rattle.site_types.specs.declared.point_set.PointSet.{PointSet}
 use Rattle.coincidence_rules.specs.declared.finding.Finding.{Finding}
 use Rattle.coincidence_rules.proofs.ZoneMasks.{of_numbered}
 use Rattle.panel_conditions.specs.declared.zone_watch.ZoneWatch.{ZoneWatch}
-use Rattle.panel_conditions.specs.declared.asked.Asked.TheVariants.{OfZone}
 use Rattle.panel_conditions.specs.declared.point_switch.PointSwitch.{PointSwitch}
 use Rattle.panel_conditions.specs.declared.points.Points.{Points}
 use Rattle.tick_units.specs.declared.last_done.LastDone.{LastDone}
 use Rattle.panel_conditions.specs.PointSets.{loop_address, address_in, put_at, put_all, either_set, set_without}
-use Rattle.panel_conditions.specs.Parts.{zone_taken, zone_done, points_at, points_taken, points_done, points_shown, item_set, is_asked, raises, on_watched, switch_points}
+use Rattle.panel_conditions.specs.Parts.{zone_taken, zone_done, points_at, points_taken, points_done, points_shown, item_set, is_of_zone, raises, on_watched, switch_points}
 use Rattle.tick_units.specs.LastTicks.{last_if}
 use Rattle.panel_conditions.specs.Points.{points_where}
 use Rattle.panel_conditions.specs.Missing.{missing_found, zone_is_off, shows_missing}
@@ -321,13 +320,13 @@ module _ (site : Site) (kept : Retained) (panel : ℕ) (done : List Done) (taken
         with_off points.off (switch_points (put_all (slice_get points.of_zones.items z) on) at points.zone_off)
         (no_point_off (λ place. is (PointOff place)))
         (told_points site panel (zone_of_is_off site kept done) (zone_of_is_off site kept (d ∷ done)) done d points.zone_off h.zone_off
-        (λ place. is_asked site kept (OfZone z) (slice_get site.points place)) on
+        (λ place. is_of_zone z (slice_get site.points place)) on
         (put_all (slice_get points.of_zones.items z) on) at refl since (λ x place. zone_next x (slice_get site.points place))
-        (λ q. put_zone site panel on (slice_get points.of_zones.items z) (λ place. is_asked site kept (OfZone z) (slice_get site.points place)) q
+        (λ q. put_zone site panel on (slice_get points.of_zones.items z) (λ place. is_of_zone z (slice_get site.points place)) q
         (h.of_zones z)))
       where
         zone_next : (x : ℕ) (o : Option PointPlan)
-            → zone_is_off site kept (d ∷ done) o x ≡ (if is_asked site kept (OfZone z) o && nat_lt at.0 x then on else zone_is_off site kept done o x)
+            → zone_is_off site kept (d ∷ done) o x ≡ (if is_of_zone z o && nat_lt at.0 x then on else zone_is_off site kept done o x)
         zone_next x None = refl
         zone_next x (Some p) =
             ap (λ b. if b && nat_lt at.0 x then value_set operation else in_force site kept (ZoneOff p.zone) x done) (is (ZoneOff p.zone))
@@ -348,6 +347,19 @@ module _ (site : Site) (kept : Retained) (panel : ℕ) (done : List Done) (taken
   points_after Resound = no_item Resound (λ place. refl) (λ zone. refl)
   points_after Reset = no_item Reset (λ place. refl) (λ zone. refl)
   points_after (Cancel zone) = no_item (Cancel zone) (λ place. refl) (λ zone. refl)
+
+-- what is kept of points stays when they are shown
+pub points_noted : {site : Site} {kept : Retained} {panel : ℕ} {done : List Done} {taken : List Finding} {points : Points}
+    → WatchesPoints site kept panel done taken points → WatchesPoints site kept panel done taken (record points { changed = false })
+points_noted h = record {
+  own = h.own;
+  addresses = h.addresses;
+  of_zones = h.of_zones;
+  missing = h.missing;
+  told = h.told;
+  off = h.off;
+  zone_off = h.zone_off;
+}
 
 -- the missing points that are shown
 pub missing_shown : (site : Site) (kept : Retained) (panel : ℕ) (done : List Done) (taken : List Finding) (points : Points) (tick : ℕ)

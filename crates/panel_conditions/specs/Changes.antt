@@ -9,6 +9,7 @@ use Rattle.coincidence_rules.specs.declared.finding.Finding.{Finding}
 use Rattle.panel_conditions.specs.declared.hold.Hold.{Hold}
 use Rattle.panel_conditions.specs.declared.outside.Outside.{Outside}
 use Rattle.panel_conditions.specs.declared.points.Points.{Points}
+use Rattle.panel_conditions.specs.declared.shown.Shown.{Shown}
 use Rattle.panel_conditions.specs.Stands.{HoldsFor, MayApply, MayNote, MayTurn, Settled}
 use Rattle.panel_conditions.specs.Stands.{ShownStays, ShowsThen, Watches, WatchesPoints}
 use Rattle.panel_conditions.specs.Turns.{HoldTurn}
@@ -76,3 +77,10 @@ abbrev pub ShowsAs : {X : Type 0} → Hold → X → (Site → Retained → ℕ 
 ShowsAs hold told definition =
     (site : Site) (kept : Retained) (panel : ℕ) (done : List Done) (turns : List HoldTurn)
     → HoldsFor site kept panel done turns hold → told ≡ definition site kept panel done turns
+
+-- zones in alarm and in first state, faults and buzzer are shown as before
+pub record ShowsAgain (before after : Shown) : Type 0 where
+  pub alarm : after.word.alarm ≡ before.word.alarm
+  pub first : after.word.first ≡ before.word.first
+  pub faults : after.faults ≡ before.faults
+  pub buzzer : after.buzzer ≡ before.buzzer

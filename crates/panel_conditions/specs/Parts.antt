@@ -22,7 +22,7 @@ use Rattle.panel_conditions.specs.declared.signs.Signs.{Signs}
 use Rattle.panel_conditions.specs.declared.zone_watch.ZoneWatch.{ZoneWatch}
 use Rattle.panel_conditions.specs.declared.zones.Zones.{Zones}
 use Rattle.panel_conditions.specs.declared.asked.Asked.{Asked}
-use Rattle.panel_conditions.specs.declared.asked.Asked.TheVariants.{Disabled, ZoneDisabled, OfZone}
+use Rattle.panel_conditions.specs.declared.asked.Asked.TheVariants.{Disabled, ZoneDisabled}
 use Rattle.panel_conditions.specs.declared.point_switch.PointSwitch.{PointSwitch}
 use Rattle.panel_conditions.specs.declared.points.Points.{Points}
 use Rattle.panel_conditions.specs.PointSets.{address_in, put_at, put_all, set_without}
@@ -187,6 +187,7 @@ points_taken finding points =
     record points {
       missing =
           put_at (address_in (slice_get points.addresses.items finding.point)) finding.missing points.missing;
+      changed = true;
     }
 
 -- the missing points that aren't disabled, nor their zone
@@ -200,9 +201,13 @@ points_shown tick points =
 abbrev pub is_so : Site → Retained → Asked → PointPlan → Bool
 is_so site kept Disabled p = kept_point kept (Some p)
 is_so site kept ZoneDisabled p = kept_zone kept (slice_get site.zones p.zone)
-is_so site kept (OfZone zone) p = p.zone == zone
 
 -- there is a point, and what is asked of it is so
 abbrev pub is_asked : Site → Retained → Asked → Option PointPlan → Bool
 is_asked site kept asked None = false
 is_asked site kept asked (Some p) = is_so site kept asked p
+
+-- there is a point, and it is of the zone at a place
+abbrev pub is_of_zone : ℕ → Option PointPlan → Bool
+is_of_zone zone None = false
+is_of_zone zone (Some p) = p.zone == zone

@@ -1,5 +1,5 @@
 -- What is made of sets of points: one point put in or taken out, and two sets joined or parted.
-use Rattle.std.specs.Prelude.{ℕ, Bool, List, [], ◌∷◌, Option, Some, None, slice_index, slice_index_or}
+use Rattle.std.specs.Prelude.{ℕ, Bool, true, List, [], ◌∷◌, Option, Some, None, slice_index, slice_index_or}
 use Rattle.std.specs.Prelude.{bit_or, bit_and, ◌&&◌, ◌==◌, nat_le, if◌then◌else◌}
 use Rattle.std.specs.Int.{w128, bit_not}
 use Rattle.site_types.specs.declared.point.Point.{Point}
@@ -66,3 +66,7 @@ set_without a b =
 abbrev pub put_all : Option PointSet → Bool → PointSet → PointSet
 put_all None on set = set
 put_all (Some points) on set = if on then either_set set points else set_without set points
+
+-- the set at one place gets the point of an address, each other one stays
+abbrev pub put_at_place : ℕ → Option LoopAddress → ℕ → PointSet → PointSet
+put_at_place place address other set = if place == other then put_at address true set else set

@@ -22,19 +22,18 @@ use Rattle.coincidence_rules.specs.Applied.{MayBeDone, TellsLast}
 use Rattle.coincidence_rules.specs.Places.{numbered}
 use Rattle.coincidence_rules.specs.Wired.{IsWired}
 use Rattle.answer_lanes.specs.declared.run.Run.{Run}
-use Rattle.answer_lanes.specs.Points.{finding_behind}
-use Rattle.answer_lanes.specs.Runs.{item_at}
+use Rattle.answer_lanes.specs.declared.finding_group.FindingGroup.{FindingGroup}
+use Rattle.answer_lanes.specs.Points.{finding_at}
 use Rattle.panel_conditions.specs.declared.zone_watch.ZoneWatch.{ZoneWatch}
 use Rattle.panel_conditions.specs.declared.sign.Sign.{Sign}
 use Rattle.panel_conditions.specs.declared.zones.Zones.{Zones}
-use Rattle.panel_conditions.specs.declared.asked.Asked.TheVariants.{OfZone}
 use Rattle.panel_conditions.specs.declared.point_switch.PointSwitch.{PointSwitch}
 use Rattle.panel_conditions.specs.declared.points.Points.{Points}
 use Rattle.panel_conditions.specs.declared.shown.Shown.{Shown}
 use Rattle.panel_conditions.specs.declared.hold.Hold.{Hold}
 use Rattle.panel_conditions.specs.declared.outside.Outside.{Outside}
 use Rattle.panel_conditions.specs.PointSets.{loop_address, set_without}
-use Rattle.panel_conditions.specs.Parts.{points_at, points_shown, is_asked, watch_shows, sign_mask}
+use Rattle.panel_conditions.specs.Parts.{points_at, points_shown, is_of_zone, watch_shows, sign_mask}
 use Rattle.tick_units.specs.LastTicks.{last_at, never_done}
 use Rattle.panel_conditions.specs.Points.{points_where}
 use Rattle.panel_conditions.specs.Turns.{HoldTurn, findings_taken, latest_tick, AreRising}
@@ -190,12 +189,12 @@ abbrev pub set_or_none : Option PointSet → PointSet
 set_or_none None = no_set
 set_or_none (Some points) = points
 
--- the first so many zones have their sets
-pub record AreZoneSets (site : Site) (kept : Retained) (panel n : ℕ) (sets : List PointSet) : Type 0 where
-  pub count : length sets ≡ n
+-- each zone has the set of the panel's points of it, among the first so many
+pub record AreZoneSets (site : Site) (panel n : ℕ) (sets : List PointSet) : Type 0 where
+  pub count : length sets ≡ length site.zones
   pub each : (zone : ℕ) (points : PointSet) → slice_get sets zone ≡ Some points
       → points ≡ points_where site panel
-      (λ place. is_asked site kept (OfZone zone) (slice_get site.points place))
+      (λ place. nat_lt place n && is_of_zone zone (slice_get site.points place))
 
 -- by the places of points, whether the last finding of each told it missing
 abbrev pub TellMissing : List Finding → List Bool → Type 0
@@ -203,9 +202,9 @@ TellMissing taken told = (place : ℕ) (b : Bool) → slice_get told place ≡ S
     → b ≡ missing_found taken place
 
 -- the last finding of each point of a run told it missing, or not, as the run does
-abbrev pub AreTold : List Bool → Run Finding → Type 0
+abbrev pub AreTold : List Bool → Run FindingGroup → Type 0
 AreTold told run = (place : ℕ) → run.taken ≤ place → place < run.taken + run.count
-    → slice_get told (item_at finding_behind run.first place).point ≡ Some run.first.missing
+    → slice_get told (finding_at run.first place).point ≡ Some (has_bit run.first.missing place)
 
 -- the points are kept by address, zone and state as the findings and operations tell
 pub record WatchesPoints (site : Site) (kept : Retained) (panel : ℕ) (done : List Done) (taken : List Finding)
@@ -214,7 +213,7 @@ pub record WatchesPoints (site : Site) (kept : Retained) (panel : ℕ) (done : L
   pub addresses : points.addresses.items ≡ map (loop_address panel) site.points
   pub of_zones : (zone : ℕ)
       → set_or_none (slice_get points.of_zones.items zone) ≡ points_where site panel
-      (λ place. is_asked site kept (OfZone zone) (slice_get site.points place))
+      (λ place. is_of_zone zone (slice_get site.points place))
   pub missing : points.missing ≡ points_where site panel (missing_found taken)
   pub told : TellMissing taken points.told.items
   pub off : TellsPoints site panel (point_is_off site kept done) done points.off
@@ -264,23 +263,24 @@ pub record IsUnchanged (outside : Outside) (hold : Hold) : Type 0 where
   pub moved : hold.zones.moved.0 < hold.shown.word.stamp.0
   pub signs : hold.shown.word ≡ word_with hold.shown.word.stamp.0 hold.shown.word.fault hold.zones.signs
   pub outside_is : outside ≡ outside_of hold.shown.faults
-  pub missing : hold.points.missing ≡ hold.missing
+  pub missing : hold.points.changed ≡ false
 
 -- no operation is later than the latest; and where each was in force when it was shown, the same follows
--- again from the points that were missing
+-- again from the points that are missing, unless these changed
 pub record ShownStays (done : List Done) (hold : Hold) : Type 0 where
   pub by : AreBy hold.zones.moved.0 done
   pub fault : hold.shown.word.fault ≡ has_fault hold.shown.faults
-  pub missing : hold.zones.moved.0 < hold.shown.word.stamp.0
-      → set_without (set_without hold.missing hold.points.off.after) hold.points.zone_off.after
+  pub missing : hold.points.changed ≡ false → hold.zones.moved.0 < hold.shown.word.stamp.0
+      → set_without (set_without hold.points.missing hold.points.off.after) hold.points.zone_off.after
       ≡ hold.shown.faults.missing
   pub buzzer : hold.zones.moved.0 < hold.shown.word.stamp.0
       → hold.shown.buzzer ≡ sounds hold.shown.word (nat_lt hold.muted.tick.0 hold.shown.newly.0)
 
--- findings change nothing of what is shown, nor of operations
+-- findings change nothing of what is shown, nor of operations, and mark the missing points where they change them
 pub record TakesFindings (before after : Hold) : Type 0 where
   pub shown : after.shown ≡ before.shown
-  pub missing : after.missing ≡ before.missing
+  pub missing : after.points.changed ≡ false
+      → (before.points.changed ≡ false) × (after.points.missing ≡ before.points.missing)
   pub moved : after.zones.moved ≡ before.zones.moved
   pub off : after.points.off ≡ before.points.off
   pub zone_off : after.points.zone_off ≡ before.points.zone_off

@@ -5,6 +5,4 @@ pub enum Asked {
     Disabled,
     /// Whether its zone is retained as disabled.
     ZoneDisabled,
-    /// Whether it is of the zone at a place.
-    OfZone(usize),
 }

@@ -1,7 +1,7 @@
-ghost use Rattle.std.specs.Prelude.{◌≡◌, ◌<◌, ◌≤◌, ◌^◌, [], ◌∷◌, ℕ, List, All, IfOk};
+ghost use Rattle.std.specs.Prelude.{◌≡◌, ◌<◌, ◌≤◌, ◌^◌, [], ℕ, List, All, IfOk};
 ghost use Rattle.tick_units.specs.Lane.{after_turn};
 ghost use Rattle.site_types.specs.Valid.{IsValid};
-ghost use Rattle.answer_lanes.specs.Points.{finding_behind};
+ghost use Rattle.answer_lanes.specs.Points.{finding_at};
 ghost use Rattle.answer_lanes.specs.Runs.{HoldsItems, HasShortCount, all_items, items_of};
 
 use crate::news::has_fault;
@@ -9,11 +9,10 @@ use crate::outside::Outside;
 use crate::points::Points;
 use crate::shown::Shown;
 use crate::signs::Signs;
-use crate::zones::{Zones, told};
-use answer_lanes::{Lane, Run};
+use crate::zones::Zones;
+use answer_lanes::{FindingGroup, Lane, Run};
 use arrayvec::ArrayVec;
-use coincidence_rules::Finding;
-use site_types::{Buzzer, FaultSet, Operation, PointSet, Retained, Site, Word};
+use site_types::{Buzzer, FaultSet, Operation, Retained, Site, Word};
 use std::alloc::Global;
 use tick_units::{LastDone, NoMemory, Tick};
 
@@ -24,16 +23,16 @@ pub struct Hold {
     points: Points,
     muted: LastDone,
     shown: Shown,
-    /// The points that were missing when it was shown.
-    missing: PointSet,
+    /// The runs that a turn takes, in a room that each turn uses again.
+    batch: ArrayVec<Run<FindingGroup>, 32>,
 }
 
 impl Hold {
     ghost use Rattle.panel_conditions.specs.Words.{alarms_after, faults_after, word_after};
     ghost use Rattle.panel_conditions.specs.Shown.{buzzer_after, entries_after};
     ghost use Rattle.panel_conditions.specs.Changes.{AppliesOperation, MakesTurn, NotesOperation, ShowsWhatFollows};
-    ghost use Rattle.panel_conditions.specs.Changes.{StaysSettled};
-    ghost use Rattle.panel_conditions.specs.Changes.{ShowsAs, WatchesMore, moved_from, turn_from};
+    ghost use Rattle.panel_conditions.specs.Changes.{ShowsAgain, ShowsAs, StaysSettled, WatchesMore, moved_from};
+    ghost use Rattle.panel_conditions.specs.Changes.{turn_from};
     ghost use Rattle.panel_conditions.specs.Stands.{HoldsFor, IsUnchanged, Settled, TakesFindings, shown_now};
 
     /// Nothing found or shown, with what is retained in force.
@@ -48,19 +47,35 @@ impl Hold {
             points,
             muted: LastDone::never(),
             shown: Shown::nothing(),
-            missing: PointSet::default(),
+            batch: ArrayVec::new(),
         })
     }
 
     /// Takes the findings that a turn moves, and shows what follows from them, from the operations done
     /// before the tick and from what the other parts tell.
-    pub fn turn(&mut self, now: Tick, findings: &mut Lane<Finding>, outside: &Outside)
+    pub fn turn(&mut self, now: Tick, findings: &mut Lane<FindingGroup>, outside: &Outside)
         requires { findings.old.quota ≤ 32 }
         ensures stands { MakesTurn self.old (turn_from now.0 findings.old outside.now) self.new }
         ensures lane { findings.new ≡ after_turn findings.old }
     {
+        self.turn_and_compare(now, findings, outside);
+    }
+
+    /// Has its turn as [`Hold::turn`] does, and tells whether zones in alarm and in first state, faults and buzzer
+    /// are shown as they were before.
+    pub fn turn_and_compare(
+        &mut self,
+        now: Tick,
+        findings: &mut Lane<FindingGroup>,
+        outside: &Outside,
+    ) -> bool
+        requires { findings.old.quota ≤ 32 }
+        ensures stands { MakesTurn self.old (turn_from now.0 findings.old outside.now) self.new }
+        ensures lane { findings.new ≡ after_turn findings.old }
+        ensures same { result ≡ true → ShowsAgain self.old.shown self.new.shown }
+    {
         self.take_turn(findings);
-        self.show(now, outside);
+        self.show(now, outside)
     }
 
     /// Takes an operation of the panel that was done in a tick. It is in force from the next tick on, so what is shown
@@ -116,7 +131,7 @@ impl Hold {
     }
 
     // Takes the findings that a turn moves.
-    fn take_turn(&mut self, findings: &mut Lane<Finding>)
+    fn take_turn(&mut self, findings: &mut Lane<FindingGroup>)
         requires { findings.old.quota ≤ 32 }
         ensures watches { WatchesMore self.old (moved_from findings.old) self.new }
         ensures settled { StaysSettled self.old self.new }
@@ -126,61 +141,55 @@ impl Hold {
         if findings.len() == 0 {
             return;
         }
-        let mut batch: ArrayVec<Run<Finding>, 32> = ArrayVec::new();
-        findings.take_turn(&mut batch);
-        self.take_runs(batch.as_slice());
+        self.batch.clear();
+        findings.take_turn(&mut self.batch);
+        self.take_batch();
     }
 
-    // Takes the findings of runs, one run after the other.
-    fn take_runs(&mut self, runs: &[Run<Finding>])
-        requires { All HoldsItems runs.now }
-        ensures watches { WatchesMore self.old (all_items finding_behind runs.now) self.new }
+    // Takes the findings of the runs in the batch, one run after the other.
+    fn take_batch(&mut self)
+        requires { All HoldsItems self.old.batch.items }
+        ensures watches { WatchesMore self.old (all_items finding_at self.old.batch.items)
+            self.new }
         ensures settled { StaysSettled self.old self.new }
         ensures kept { TakesFindings self.old self.new }
     {
-        for run in runs {
-            self.take_run(run);
+        for place in 0..self.batch.len() {
+            let run = self.batch.as_slice()[place];
+            self.take_run(&run);
         }
     }
 
-    // Takes the findings of a run. Where they tell of no zone, and of each point what was told of it last, nothing
-    // changes.
-    fn take_run(&mut self, run: &Run<Finding>)
+    // Takes the findings of a run. All that tell of zones tell the same of them at the same tick, so one is as good as
+    // all.
+    fn take_run(&mut self, run: &Run<FindingGroup>)
         requires { HasShortCount run.now }
-        ensures watches { WatchesMore self.old (items_of finding_behind run.now) self.new }
+        ensures watches { WatchesMore self.old (items_of finding_at run.now) self.new }
         ensures settled { StaysSettled self.old self.new }
         ensures kept { TakesFindings self.old self.new }
+        ensures batch { self.new.batch ≡ self.old.batch }
     {
-        if is_plain(&run.first) && self.points.have_told(run) {
+        self.points.take_run(run);
+        let Some(place) = run.first.first_telling(run.taken, run.count) else {
             return;
-        }
-        for place in run.taken..run.taken + run.count {
-            let finding = run.item(place);
-            self.take(&finding);
-        }
+        };
+        self.zones.take(&run.item(place));
     }
 
-    fn take(&mut self, finding: &Finding)
-        ensures watches { WatchesMore self.old (finding.now ∷ []) self.new }
-        ensures settled { StaysSettled self.old self.new }
-        ensures kept { TakesFindings self.old self.new }
-    {
-        self.zones.take(finding);
-        self.points.take(finding);
-    }
-
-    // Shows what follows at a tick, which isn't before that of the latest turn.
-    fn show(&mut self, now: Tick, outside: &Outside)
+    // Shows what follows at a tick, which isn't before that of the latest turn, and tells whether it is as before.
+    fn show(&mut self, now: Tick, outside: &Outside) -> bool
         ensures fits { now.0 < 2 ^ 64 }
         ensures shows { ShowsWhatFollows self.old now.0 outside.now self.new }
         ensures settled { (tick : ℕ) → Settled tick self.old.zones → tick ≤ now.0
             → Settled now.0 self.new.zones }
+        ensures same { result ≡ true → ShowsAgain self.old.shown self.new.shown }
     {
         self.zones.draw(now);
         if self.is_unchanged(outside) {
             self.shown.word.stamp = now;
+            true
         } else {
-            self.show_anew(now, outside);
+            self.show_anew(now, outside)
         }
     }
 
@@ -188,57 +197,54 @@ impl Hold {
     fn is_unchanged(&self, outside: &Outside) -> bool
         ensures { result ≡ true → IsUnchanged outside.now self.now }
     {
-        self.zones.moved().0 < self.shown.word.stamp.0
+        !self.points.has_changed()
+            && self.zones.moved().0 < self.shown.word.stamp.0
             && has_signs(&self.shown.word, &self.zones.signs())
             && has_told(&self.shown.faults, outside)
-            && is_same_set(self.points.missing(), &self.missing)
     }
 
-    // Shows what follows from zones that were drawn at a tick.
-    fn show_anew(&mut self, now: Tick, outside: &Outside)
+    // Shows what follows from zones that were drawn at a tick, and tells whether it is as before.
+    fn show_anew(&mut self, now: Tick, outside: &Outside) -> bool
         ensures shown { self.new.shown ≡ shown_now now.0 outside.now self.old }
-        ensures missing { self.new.missing ≡ self.old.points.missing }
-        ensures rest { (self.new.zones ≡ self.old.zones) × (self.new.points ≡ self.old.points)
-            × (self.new.muted ≡ self.old.muted) }
+        ensures points { self.new.points ≡ record self.old.points { changed = false } }
+        ensures rest { (self.new.zones ≡ self.old.zones) × (self.new.muted ≡ self.old.muted) }
+        ensures same { result ≡ true → ShowsAgain self.old.shown self.new.shown }
     {
         let faults = outside.with_missing(self.points.showing(now));
         let word = self.zones.signs().word(now, has_fault(&faults));
         let muted = self.muted.before(now);
-        self.shown = self.shown.after(word, faults, muted);
-        self.missing = *self.points.missing();
+        let shown = self.shown.after(word, faults, muted);
+        let same = shown.shows_again(&self.shown);
+        self.shown = shown;
+        self.points.note_shown();
+        same
     }
 }
 
-ghost use Rattle.std.specs.Prelude.{true};
-ghost use Rattle.panel_conditions.specs.Parts.{told_by};
+ghost use Rattle.std.specs.Prelude.{true, false};
 ghost use Rattle.panel_conditions.specs.Words.{word_with};
 ghost use Rattle.panel_conditions.specs.Stands.{outside_of};
-
-// Whether a finding tells of no zone.
-fn is_plain(finding: &Finding) -> bool
-    ensures { result ≡ true → told_by finding.now ≡ 0 }
-{
-    told(finding) == 0
-}
 
 // Whether a word tells the signs of the zones.
 fn has_signs(word: &Word, signs: &Signs) -> bool
     ensures { result ≡ true → word.now ≡ word_with word.now.stamp.0 word.now.fault signs.now }
 {
-    *word == signs.word(word.stamp, word.fault)
+    word.alarm == signs.alarm
+        && word.manual == signs.manual
+        && word.released == signs.released
+        && word.first == signs.first
 }
 
 // Whether faults are those that the other parts tell.
 fn has_told(faults: &FaultSet, outside: &Outside) -> bool
     ensures { result ≡ true → outside.now ≡ outside_of faults.now }
 {
-    *outside == Outside::of(faults)
-}
-
-fn is_same_set(a: &PointSet, b: &PointSet) -> bool
-    ensures { result ≡ true → a.now ≡ b.now }
-{
-    a == b
+    outside.supply == faults.supply
+        && outside.broken == faults.broken
+        && outside.shorted == faults.shorted
+        && outside.silent == faults.silent
+        && outside.links == faults.links
+        && outside.unconfirmed == faults.unconfirmed
 }
 
 ghost use Rattle.site_types.specs.Done.{is_mute as mutes_all};

@@ -1,5 +1,4 @@
 ghost use Rattle.std.specs.Prelude.{◌≡◌};
-ghost use Rattle.panel_conditions.specs.Stands.{outside_of};
 ghost use Rattle.panel_conditions.specs.Words.{with_missing};
 
 use site_types::{FaultSet, PointSet};
@@ -22,20 +21,6 @@ pub struct Outside {
 }
 
 impl Outside {
-    /// What the other parts told where a panel shows these faults.
-    pub fn of(faults: &FaultSet) -> Outside
-        ensures { result ≡ outside_of faults.now }
-    {
-        Outside {
-            supply: faults.supply,
-            broken: faults.broken,
-            shorted: faults.shorted,
-            silent: faults.silent,
-            links: faults.links,
-            unconfirmed: faults.unconfirmed,
-        }
-    }
-
     /// The faults of a panel with these missing points.
     pub fn with_missing(&self, missing: PointSet) -> FaultSet
         ensures { result ≡ with_missing missing self.now }

@@ -1,14 +1,15 @@
-ghost use Rattle.std.specs.Prelude.{◌≡◌, ◌≢◌, ◌⊎◌, ◌-◌, ◌++◌, ◌∷◌, ℕ, Bool, List, true, map, slice_get, slice_index};
-ghost use Rattle.std.specs.Prelude.{IfOk, Some, option_copied};
+ghost use Rattle.std.specs.Prelude.{◌≡◌, ◌≢◌, ◌⊎◌, ◌-◌, ◌++◌, ◌∷◌, ℕ, Bool, List, true, false};
+ghost use Rattle.std.specs.Prelude.{IfOk, Some, option_copied, map, slice_get, slice_index};
 ghost use Rattle.site_types.specs.Bits.{has_bit, no_set};
 ghost use Rattle.site_types.specs.Valid.{IsValid};
-ghost use Rattle.answer_lanes.specs.Runs.{HasShortCount};
+ghost use Rattle.answer_lanes.specs.Points.{finding_at};
+ghost use Rattle.answer_lanes.specs.Runs.{HasShortCount, items_of};
 
 use crate::asked::Asked;
 use crate::loop_address::LoopAddress;
 use crate::point_sets::{put, without};
 use crate::point_switch::PointSwitch;
-use answer_lanes::Run;
+use answer_lanes::{FindingGroup, Run};
 use coincidence_rules::Finding;
 use site_types::{Item, Operation, Point, PointSet, Retained, Site, Zone, has_bit_32};
 use std::alloc::Global;
@@ -23,6 +24,8 @@ pub struct Points {
     of_zones: Vec<PointSet>,
     /// The points whose last three answers were silent.
     missing: PointSet,
+    /// Whether these may be others than when they were shown last.
+    changed: bool,
     /// Whether the last finding of each point of the site told it missing, by its place.
     told: Vec<bool>,
     off: PointSwitch,
@@ -41,7 +44,7 @@ impl Points {
             → WatchesPoints site.now kept.now panel [] [] points) }
     {
         let addresses = addresses_of(alloc, site, panel)?;
-        let of_zones = sets_of_zones(alloc, site, panel, kept)?;
+        let of_zones = sets_of_zones(alloc, site, panel)?;
         let off = PointSwitch::new(points_that(site, panel, kept, Asked::Disabled));
         let zone_off = PointSwitch::new(points_that(site, panel, kept, Asked::ZoneDisabled));
         let told = vec![in alloc; false; site.points.len()]?;
@@ -49,6 +52,7 @@ impl Points {
             addresses,
             of_zones,
             missing: no_points(),
+            changed: false,
             told,
             off,
             zone_off,
@@ -59,6 +63,8 @@ impl Points {
     pub fn take(&mut self, finding: &Finding)
         ensures watches { WatchesPointsMore self.old (finding.now ∷ []) self.new }
         ensures off { (self.new.off ≡ self.old.off) × (self.new.zone_off ≡ self.old.zone_off) }
+        ensures missing { self.new.changed ≡ false
+            → (self.old.changed ≡ false) × (self.new.missing ≡ self.old.missing) }
     {
         let place = finding.point as usize;
         if self.has_told(place, finding.missing) {
@@ -68,9 +74,25 @@ impl Points {
         self.mark(place, finding.missing);
     }
 
-    /// Whether the last finding of each point of a run told it missing, or not, as the run does. Points past the last
-    /// place that has a number don't count as told.
-    pub fn have_told(&self, run: &Run<Finding>) -> bool
+    /// Takes note of the findings of a run. Where each tells of its point what was told of it last, nothing changes.
+    pub fn take_run(&mut self, run: &Run<FindingGroup>)
+        requires { HasShortCount run.now }
+        ensures watches { WatchesPointsMore self.old (items_of finding_at run.now) self.new }
+        ensures off { (self.new.off ≡ self.old.off) × (self.new.zone_off ≡ self.old.zone_off) }
+        ensures missing { self.new.changed ≡ false
+            → (self.old.changed ≡ false) × (self.new.missing ≡ self.old.missing) }
+    {
+        if self.have_told(run) {
+            return;
+        }
+        for place in run.taken..run.taken + run.count {
+            self.take(&run.item(place));
+        }
+    }
+
+    // Whether the last finding of each point of a run told it missing, or not, as the run does. Points past the last
+    // place that has a number don't count as told.
+    fn have_told(&self, run: &Run<FindingGroup>) -> bool
         requires { HasShortCount run.now }
         ensures { result ≡ true → AreTold self.now.told.items run.now }
     {
@@ -80,7 +102,7 @@ impl Points {
             return false;
         }
         match self.told.get(first..end) {
-            Some(told) => are_all(told, run.first.missing),
+            Some(told) => are_as(told, &run.first, run.taken),
             None => false,
         }
     }
@@ -101,6 +123,7 @@ impl Points {
     {
         let address = self.address_of(finding.point);
         put(&mut self.missing, address, finding.missing);
+        self.changed = true;
     }
 
     // Marks what the finding of a point told.
@@ -110,6 +133,7 @@ impl Points {
             ⊎ ((k ≢ place) × (slice_get self.old.told.items k ≡ Some b)) }
         ensures kept { (self.new.addresses ≡ self.old.addresses)
             × (self.new.of_zones ≡ self.old.of_zones) × (self.new.missing ≡ self.old.missing) }
+        ensures changed { self.new.changed ≡ self.old.changed }
         ensures off { (self.new.off ≡ self.old.off) × (self.new.zone_off ≡ self.old.zone_off) }
     {
         if place < self.told.len() {
@@ -128,11 +152,18 @@ impl Points {
         }
     }
 
-    /// The points whose last three answers were silent.
-    pub fn missing(&self) -> &PointSet
-        ensures { result.now ≡ self.now.missing }
+    /// Whether the missing points may be others than when they were shown last.
+    pub fn has_changed(&self) -> bool
+        ensures { result ≡ self.now.changed }
     {
-        &self.missing
+        self.changed
+    }
+
+    /// Takes note that the missing points are shown as they are.
+    pub fn note_shown(&mut self)
+        ensures { self.new ≡ record self.old { changed = false } }
+    {
+        self.changed = false;
     }
 
     /// The points that are shown as missing at a tick.
@@ -171,15 +202,20 @@ impl Points {
     }
 }
 
-ghost use Rattle.std.specs.Prelude.{◌<◌, [], length};
+ghost use Rattle.std.specs.Prelude.{◌<◌, ◌≤◌, ◌+◌, [], length, option_map};
 
-// Whether all marks are this one. It looks at each, so that many are looked at together.
-fn are_all(marks: &[bool], mark: bool) -> bool
-    ensures { result ≡ true → (k : ℕ) → k < length marks.now → slice_get marks.now k ≡ Some mark }
+// Whether all marks are those of a group's points, from the one at a place on. It looks at each, so that many are
+// looked at together.
+fn are_as(marks: &[bool], group: &FindingGroup, from: u8) -> bool
+    requires { from + length marks.now ≤ 255 }
+    ensures { result ≡ true → (k : ℕ) → k < length marks.now
+        → slice_get marks.now k ≡ Some (has_bit group.now.missing (from + k)) }
 {
     let mut all = true;
+    let mut place = from;
     for each in marks {
-        all &= *each == mark;
+        all &= *each == group.is_missing(place);
+        place += 1;
     }
     all
 }
@@ -187,7 +223,7 @@ fn are_all(marks: &[bool], mark: bool) -> bool
 ghost use Rattle.site_types.specs.Changes.{HasOwnPlaces, IsNumber, IsPanelNumber};
 ghost use Rattle.site_types.specs.Bits.{IsPlace};
 ghost use Rattle.site_types.specs.Done.{kept_point, kept_zone};
-ghost use Rattle.panel_conditions.specs.PointSets.{loop_address};
+ghost use Rattle.panel_conditions.specs.PointSets.{loop_address, put_at_place};
 ghost use Rattle.panel_conditions.specs.Points.{points_where};
 ghost use Rattle.panel_conditions.specs.Parts.{is_asked, is_so as is_so_of};
 ghost use Rattle.panel_conditions.specs.Stands.{AreZoneSets, HasPlaces, HasZoneNumber};
@@ -230,21 +266,29 @@ fn no_points() -> PointSet
     PointSet { loops: [[0; 2]; 4] }
 }
 
-// For each zone of the site its points.
-fn sets_of_zones(
-    alloc: Global,
-    site: &Site,
-    panel: u8,
-    kept: &Retained,
-) -> Result<Vec<PointSet>, NoMemory>
+// For each zone of the site the panel's points of it.
+fn sets_of_zones(alloc: Global, site: &Site, panel: u8) -> Result<Vec<PointSet>, NoMemory>
     ensures { IfOk result (λ sets. HasOwnPlaces site.now
-        → AreZoneSets site.now kept.now panel (length site.now.zones) sets.items) }
+        → AreZoneSets site.now panel (length site.now.points) sets.items) }
 {
-    let mut sets = Vec::with_capacity(alloc, site.zones.len())?;
-    for zone in 0..site.zones.len() {
-        sets.push(points_that(site, panel, kept, Asked::OfZone(zone)))?;
+    let points = site.points.as_slice();
+    let mut sets = vec![in alloc; no_points(); site.zones.len()]?;
+    for point in points {
+        put_into(&mut sets, point.zone as usize, address_at(panel, point));
     }
     Ok(sets)
+}
+
+// Puts the point of an address into the set at a place.
+fn put_into(sets: &mut [PointSet], place: usize, address: Option<LoopAddress>)
+    ensures each { (k : ℕ) → slice_get sets.new k
+        ≡ option_map (put_at_place place address k) (slice_get sets.old k) }
+    ensures count { length sets.new ≡ length sets.old }
+{
+    if place < sets.len() {
+        let set = &mut sets[place];
+        put(set, address, true);
+    }
 }
 
 // The points of a panel of which something is so.
@@ -271,7 +315,6 @@ fn is_so(asked: Asked, site: &Site, kept: &Retained, point: &Point) -> bool
     match asked {
         Asked::Disabled => is_point_off(kept, point),
         Asked::ZoneDisabled => is_zone_off(kept, site.zones.get(point.zone as usize)),
-        Asked::OfZone(zone) => point.zone as usize == zone,
     }
 }
 

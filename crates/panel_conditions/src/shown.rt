@@ -1,4 +1,5 @@
-ghost use Rattle.std.specs.Prelude.{◌≡◌, [], ◌∷◌};
+ghost use Rattle.std.specs.Prelude.{◌≡◌, [], ◌∷◌, true};
+ghost use Rattle.panel_conditions.specs.Changes.{ShowsAgain};
 ghost use Rattle.panel_conditions.specs.Stands.{entries_then, nothing_shown, shown_then};
 
 use crate::news::{is_news, sounds};
@@ -46,6 +47,16 @@ impl Shown {
             entries: entries_after(self.entries, &word, &self.word),
             buzzer: sounds(&word, muted.0 < newly.0),
         }
+    }
+
+    /// Whether zones in alarm and in first state, faults and buzzer are shown as before.
+    pub fn shows_again(&self, before: &Shown) -> bool
+        ensures { result ≡ true → ShowsAgain before.now self.now }
+    {
+        self.word.alarm == before.word.alarm
+            && self.word.first == before.word.first
+            && self.buzzer == before.buzzer
+            && self.faults == before.faults
     }
 }
 

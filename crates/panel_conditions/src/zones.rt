@@ -207,8 +207,8 @@ fn is_shown(finding: &Finding, signs: &Signs) -> bool
         && finding.released | signs.released == signs.released
 }
 
-/// The zones of which a finding tells.
-pub fn told(finding: &Finding) -> u32
+// The zones of which a finding tells.
+fn told(finding: &Finding) -> u32
     ensures { result ≡ told_by finding.now }
 {
     finding.counted | finding.confirmed | finding.manual | finding.released

@@ -1,18 +1,18 @@
-ghost use Rattle.std.specs.Prelude.{◌≤◌, IfOk};
+ghost use Rattle.std.specs.Prelude.{◌≡◌, ◌≤◌, IfOk, true};
 ghost use Rattle.site_types.specs.Valid.{IsValid};
 ghost use Rattle.site_types.specs.Changes.{IsNumber};
 ghost use Rattle.loop_poller.specs.Stands.{HasPoint};
 ghost use Rattle.panel_rules.specs.Moments.{IsPanel};
 
-use answer_lanes::Lane;
+use answer_lanes::{AnswerGroup, FindingGroup, Lane};
 use cause_effect::Plan;
-use coincidence::{Decide, Finding};
+use coincidence::Decide;
 use loop_poller::Poller;
 use operation_desk::DoneOperation;
 use output_drive::Drive;
 use panel_conditions::{Hold, Outside};
 use panel_effects::Effects;
-use site_types::{Answer, PieceState, PointState, Retained, Site, SupplyKind, mask_from_8};
+use site_types::{PieceState, PointState, Retained, Site, SupplyKind, mask_from_8};
 use std::alloc::Global;
 use supply_monitor::Supply;
 use tick_units::{NoMemory, Tick};
@@ -23,8 +23,8 @@ pub struct Parts {
     pub poller: Poller,
     pub decide: Decide,
     pub hold: Hold,
-    pub answers: Lane<Answer>,
-    pub findings: Lane<Finding>,
+    pub answers: Lane<AnswerGroup>,
+    pub findings: Lane<FindingGroup>,
     pub supply: Supply,
     pub effects: Effects,
     pub drive: Drive,
@@ -36,6 +36,7 @@ impl Parts {
     ghost use Rattle.tick_units.specs.declared.task.Task.TheVariants.{Decide as DecideTask, Hold as HoldTask};
     ghost use Rattle.tick_units.specs.declared.task.Task.TheVariants.{Poll, Supply as SupplyTask};
     ghost use Rattle.operation_desk.specs.Requests.{done_from};
+    ghost use Rattle.panel_conditions.specs.Changes.{ShowsAgain};
     ghost use Rattle.panel_parts.specs.Stands.{HasPlan, MayComeInForce, MayTurn, StandsAtOpening};
 
     /// The parts of a panel before the first tick, whatever the panel is told from elsewhere.
@@ -123,13 +124,16 @@ impl Parts {
         self.supply.turn(now);
     }
 
-    /// Hold has its turn, with the panels that are silent and the links that are down, a bit each.
-    pub fn hold_turn(&mut self, now: Tick, silent: u8, links: u8)
+    /// Hold has its turn, with the panels that are silent and the links that are down, a bit each. Tells whether it
+    /// shows zones, faults and buzzer as before.
+    pub fn hold_turn(&mut self, now: Tick, silent: u8, links: u8) -> bool
         requires { MayTurn HoldTask now.0 self.old }
-        ensures { MakesHoldTurn self.old now.0 silent links self.new }
+        ensures turn { MakesHoldTurn self.old now.0 silent links self.new }
+        ensures same { result ≡ true → ShowsAgain self.old.hold.shown self.new.hold.shown }
     {
         let outside = self.outside(silent, links);
-        self.hold.turn(now, &mut self.findings, &outside);
+        self.hold
+            .turn_and_compare(now, &mut self.findings, &outside)
     }
 
     /// Drive has its turn; `off` has the panel's disabled outputs, bit `number - 1` each.

@@ -8,11 +8,11 @@ put_items-requires g c =
     let lane = c.args.lane.now in
     let few = c.requires.few in
     let none = ap length c.requires.empty.1 in
-    let moved = ap (λ rs. length (all_items g.T.Numbered.behind rs)) c.as_slice.ensures.value ∙ ap length c.take_turn.ensures.moved
+    let moved = ap (λ rs. length (all_items g.S.Several.item_at rs)) c.as_slice.ensures.value ∙ ap length c.take_turn.ensures.moved
     ∙ length-take (turn_count lane) lane.items in
     ((search rules), (subst (All HoldsItems) (sym c.as_slice.ensures.value) c.take_turn.ensures.held, omega (arith, none, moved, few)))
 
 pub returns-clause-moved : goal.returns-clause-moved
 returns-clause-moved g c =
-    c.put_items.ensures ∙ ap (λ xs. xs ++ all_items g.T.Numbered.behind c.as_slice.result.now) c.requires.empty.1
-    ∙ ap (all_items g.T.Numbered.behind) c.as_slice.ensures.value ∙ c.take_turn.ensures.moved
+    c.put_items.ensures ∙ ap (λ xs. xs ++ all_items g.S.Several.item_at c.as_slice.result.now) c.requires.empty.1
+    ∙ ap (all_items g.S.Several.item_at) c.as_slice.ensures.value ∙ c.take_turn.ensures.moved

@@ -6,22 +6,22 @@ use Rattle.answer_lanes.proofs.lane.move_runs.Goals as goal
 pub move_whole-behind_the_seam-requires : goal.move_whole-behind_the_seam-requires
 move_whole-behind_the_seam-requires g c =
     let first = c.move_whole-before_the_seam in
-    let left = up_to_the_seam g.T.Numbered.behind c.args.count c.args.runs.now.items c.args.runs.now.capacity first.result.runs first.result.items
+    let left = up_to_the_seam g.S.Several.item_at c.args.count c.args.runs.now.items c.args.runs.now.capacity first.result.runs first.result.items
     c.args.into.now.items first.new.into.items first.new.runs.items c.requires.may c.requires.few c.requires.empty
     first.ensures.whole first.ensures.moved first.ensures.rest in
     ((search rules), (left.held, left.few))
 
 pub loop-left-init : goal.loop-left-init
 loop-left-init g c =
-    let behind = g.T.Numbered.behind in
+    let item_at = g.S.Several.item_at in
     let count = c.args.count in
     let runs = c.args.runs.now in
     let first = c.move_whole-before_the_seam in
     let second = c.move_whole-behind_the_seam in
     let same = second.ensures.same ∙ first.ensures.same in
     record {
-      moving = subst (λ n. Moving behind count runs.items (count - first.result.items - second.result.items) second.new.into.items second.new.runs.items n) (sym same)
-          (behind_the_seam behind count runs.items runs.capacity first.result.runs first.result.items c.args.into.now.items first.new.into.items
+      moving = subst (λ n. Moving item_at count runs.items (count - first.result.items - second.result.items) second.new.into.items second.new.runs.items n) (sym same)
+          (behind_the_seam item_at count runs.items runs.capacity first.result.runs first.result.items c.args.into.now.items first.new.into.items
           first.new.runs.items c.requires.may c.requires.few c.requires.empty first.ensures.whole first.ensures.moved first.ensures.rest
           second.result.runs second.result.items second.new.into.items second.new.runs.items
           second.ensures.whole second.ensures.moved second.ensures.rest);
@@ -36,9 +36,9 @@ put_back-requires g c =
     let popped = c.pop_front.ensures.items in
     let h = l.invariant.moving in
     let some = c.loop-left-test.true in
-    let short_run = short g.T.Numbered.behind c.args.count c.args.runs.now.items l.left l.into.items l.runs.items l.runs.capacity h some
+    let short_run = short g.S.Several.item_at c.args.count c.args.runs.now.items l.left l.into.items l.runs.items l.runs.capacity h some
     run c.front-front.result at c.front-front.ensures _ refl in
-    let place = has_place g.T.Numbered.behind c.args.count c.args.runs.now.items l.left l.into.items l.runs.items l.runs.capacity h some
+    let place = has_place g.S.Several.item_at c.args.count c.args.runs.now.items l.left l.into.items l.runs.items l.runs.capacity h some
     run c.front-front.result at c.front-front.ensures _ refl in
     let size = ap (λ b. length b.items) popped in
     let capacity = ap (λ b. b.capacity) popped in
@@ -47,12 +47,12 @@ put_back-requires g c =
 pub loop-left-smaller : goal.loop-left-smaller
 loop-left-smaller g c =
     let l = c.loop-left in
-    smaller g.T.Numbered.behind c.args.count c.args.runs.now.items l.left l.into.items l.runs.items l.runs.capacity l.invariant.moving c.loop-left-test.true
+    smaller g.S.Several.item_at c.args.count c.args.runs.now.items l.left l.into.items l.runs.items l.runs.capacity l.invariant.moving c.loop-left-test.true
     c.in-Some.run' c.front-front.result (sym c.pop_front.ensures.value ∙ c.in-Some.is) c.front-front.ensures _ refl
 
 pub loop-left-preserved : goal.loop-left-preserved
 loop-left-preserved g c =
-    let behind = g.T.Numbered.behind in
+    let item_at = g.S.Several.item_at in
     let l = c.loop-left in
     let front = c.front-front.result in
     let at = sym c.pop_front.ensures.value ∙ c.in-Some.is in
@@ -64,17 +64,17 @@ loop-left-preserved g c =
     let into = c.try_push-room.new.self.items in
     let runs = c.put_back.new.runs in
     let pushed = with_value c.try_push-room.result
-    (c.try_push-room.ensures.variant.1 (fits behind c.args.count start l.left l.into.items l.runs.items l.runs.capacity h some c.in-Some.run' front at is_front _ refl))
+    (c.try_push-room.ensures.variant.1 (fits item_at c.args.count start l.left l.into.items l.runs.items l.runs.capacity h some c.in-Some.run' front at is_front _ refl))
     c.try_push-room.ensures.ok in
     let same = c.put_back.ensures.same ∙ ap (λ b. b.capacity) popped in
     record {
-      moving = subst (λ n. Moving behind c.args.count start (l.left - front.count) into runs.items n) (sym same)
-          (goes_on behind c.args.count start l.left l.into.items l.runs.items l.runs.capacity h some c.in-Some.run' front at is_front into pushed runs.items
+      moving = subst (λ n. Moving item_at c.args.count start (l.left - front.count) into runs.items n) (sym same)
+          (goes_on item_at c.args.count start l.left l.into.items l.runs.items l.runs.capacity h some c.in-Some.run' front at is_front into pushed runs.items
           (λ all. ap (λ b. b.items) (c.put_back.ensures.whole all ∙ popped))
           (λ less. c.put_back.ensures.parted less ∙ ap (λ b. rest_of front.count c.in-Some.run' ∷ b.items) popped));
       same = same ∙ l.invariant.same;
     }
 
 pub returns-clause-moves : goal.returns-clause-moves
-returns-clause-moves g c = ends g.T.Numbered.behind c.args.count c.args.runs.now.items c.loop-left.left c.loop-left.into.items c.loop-left.runs.items
+returns-clause-moves g c = ends g.S.Several.item_at c.args.count c.args.runs.now.items c.loop-left.left c.loop-left.into.items c.loop-left.runs.items
     c.loop-left.runs.capacity c.loop-left.invariant.moving (let none = c.loop-left-test.false in omega (arith, none))

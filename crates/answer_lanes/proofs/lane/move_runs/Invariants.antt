@@ -4,7 +4,7 @@ use Rattle.answer_lanes.proofs.lane.move_runs.Given as goal
 
 abbrev pub invariant-loop-left : goal.invariant-loop-left
 invariant-loop-left g l = record {
-  moving : Moving g.T.Numbered.behind l.fn.count l.fn.runs.items l.left l.into.items l.runs.items l.runs.capacity;
+  moving : Moving g.S.Several.item_at l.fn.count l.fn.runs.items l.left l.into.items l.runs.items l.runs.capacity;
   same : l.runs.capacity ≡ l.fn.runs.capacity;
 }
 

@@ -6,15 +6,15 @@ use Rattle.answer_lanes.proofs.lane.move_whole.Goals as goal
 pub returns-clause-whole : goal.returns-clause-whole
 returns-clause-whole g c =
     let whole = c.whole_runs-whole in
-    whole_in_all g.T.Numbered.behind c.args.most _ _ c.args.runs.now.items whole.result.runs whole.result.items c.as_slices.ensures whole.ensures
+    whole_in_all g.S.Several.item_at c.args.most _ _ c.args.runs.now.items whole.result.runs whole.result.items c.as_slices.ensures whole.ensures
 
 pub returns-clause-moved : goal.returns-clause-moved
 returns-clause-moved g c =
-    let behind = g.T.Numbered.behind in
+    let item_at = g.S.Several.item_at in
     let whole = c.whole_runs-whole in
     let all = c.args.runs.now.items in
-    let few = few_whole behind c.args.most _ _ all whole.result.runs whole.result.items c.as_slices.ensures whole.ensures c.requires.held in
+    let few = few_whole item_at c.args.most _ _ all whole.result.runs whole.result.items c.as_slices.ensures whole.ensures c.requires.held in
     let room = c.requires.room in
     let extend = c.try_extend_from_slice-room in
     with_value extend.result (extend.ensures.variant.1 (omega (arith, few, room))) extend.ensures.ok
-    ∙ ap (λ rs. c.args.into.now.items ++ rs) (same_runs behind c.args.most _ _ all whole.result.runs whole.result.items c.as_slices.ensures whole.ensures)
+    ∙ ap (λ rs. c.args.into.now.items ++ rs) (same_runs item_at c.args.most _ _ all whole.result.runs whole.result.items c.as_slices.ensures whole.ensures)

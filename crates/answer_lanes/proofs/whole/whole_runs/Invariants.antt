@@ -6,5 +6,5 @@ use Rattle.answer_lanes.proofs.whole.whole_runs.Given as goal
 abbrev pub invariant-loop-run : goal.invariant-loop-run
 invariant-loop-run g l = record {
   at : l.whole.runs ≡ l.run-index;
-  before : AreWhole g.T.Numbered.behind l.fn.most l.fn.runs l.whole.runs l.whole.items;
+  before : AreWhole g.S.Several.item_at l.fn.most l.fn.runs l.whole.runs l.whole.items;
 }

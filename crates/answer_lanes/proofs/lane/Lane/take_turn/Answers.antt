@@ -12,14 +12,14 @@ move_runs-requires g c =
     let least = c.min-count.ensures in
     let size = c.len.ensures.length in
     let few = c.requires.few in
-    let enough : c.min-count.result ≤ length (all_items g.T.Numbered.behind l.runs.items) = omega (arith, least, size, items) in
+    let enough : c.min-count.result ≤ length (all_items g.S.Several.item_at l.runs.items) = omega (arith, least, size, items) in
     let at_most : c.min-count.result ≤ 32 = omega (arith, least, quota, few) in (
       (search rules),
       (
         c.requires.empty,
         (
           at_most,
-          may_move g.T.Numbered.behind l.runs.items l.put l.taken l.capacity l.runs.capacity c.min-count.result
+          may_move g.S.Several.item_at l.runs.items l.put l.taken l.capacity l.runs.capacity c.min-count.result
               c.self.invariant enough,
         ),
       ),

@@ -1,12 +1,4 @@
-use Rattle.std.proofs.Common.{◌∙◌, ap, max}
-use Rattle.tick_units.specs.LastTicks.{last_at}
-use Rattle.coincidence.proofs.Judged.{floor_is}
 use Rattle.coincidence.proofs.decide.Decide.floor_at.Goals as goal
 
 pub returns : goal.returns
-returns c site kept panel done taken stands by' plan is at =
-    let x = c.args.x.0 in
-    c.max.ensures
-    ∙ ap (λ n. max n c.before-3.result.0) c.before-2.ensures
-    ∙ ap (λ n. max (last_at x c.args.self.now.reset) n) c.before-3.ensures
-    ∙ floor_is stands x c.args.zone plan by' is at c.index.result.now c.index.ensures
+returns c = c.floor_of.ensures c.args.zone c.index.ensures

@@ -4,24 +4,28 @@ use Rattle.coincidence.proofs.Observations.{floor_judged}
 use Rattle.coincidence.proofs.TakenAnswer.{stands_noted}
 use Rattle.coincidence.proofs.decide.Decide.note_alarm.Goals as goal
 
+pub at-point-requires : goal.at-point-requires
+at-point-requires c =
+    let q = c.requires in
+    point_small q.stands c.args.answer.now.point (q.may.own 0 c.args.answer.now refl)
+
+pub note-requires : goal.note-requires
+note-requires c =
+    let q = c.requires in
+    point_small q.stands c.args.answer.now.point (q.may.own 0 c.args.answer.now refl)
+
 pub index_mut-watch-requires : goal.index_mut-watch-requires
 index_mut-watch-requires c =
     let q = c.requires in
-    subst (λ n. c.args.answer.now.point < n) (sym c.args.self.now.points.ok.0)
-    (point_small q.stands c.args.answer.now.point (q.may.own 0 c.args.answer.now refl))
+    subst (λ n. c.at-point.result.now.zone < n) (sym c.args.self.now.zones.ok.0)
+    (zone_small q.stands c.args.answer.now.point (q.may.own 0 c.args.answer.now refl) c.at-point.result.now c.at-point.ensures)
 
-pub index_mut-watch-requires-2 : goal.index_mut-watch-requires-2
-index_mut-watch-requires-2 c =
-    let q = c.requires in
-    subst (λ n. c.index_mut-watch.result.now.zone < n) (sym c.args.self.now.zones.ok.0)
-    (zone_small q.stands c.args.answer.now.point (q.may.own 0 c.args.answer.now refl) c.index_mut-watch.result.now c.index_mut-watch.ensures.value)
-
-pub returns : goal.returns
-returns c site kept panel done taken stands may judges =
+pub returns-clause-taken : goal.returns-clause-taken
+returns-clause-taken c site kept panel done taken stands may judges =
     let answer = c.args.answer.now in
     let judgement = c.args.judgement.now in
-    let r = c.index_mut-watch.result.now in
+    let r = c.at-point.result.now in
     let fits = fits_next site kept panel done taken answer may in
-    stands_noted stands answer may r c.index_mut-watch-2.result.now c.index_mut-watch.ensures.value c.index_mut-watch-2.ensures.value
-    judgement.counted judgement.floor c.note.new.self c.note-2.new.self c.may_pair.result c.note.ensures c.may_pair.ensures c.note-2.ensures
-    judges.counted (floor_judged stands answer fits r c.index_mut-watch.ensures.value judgement judges)
+    stands_noted stands answer may r c.index_mut-watch.result.now c.at-point.ensures c.index_mut-watch.ensures.value
+    judgement.counted judgement.floor c.note.new.self c.note-2.new.self c.may_pair.result (c.note.ensures r c.at-point.ensures) c.may_pair.ensures
+    c.note-2.ensures judges.counted (floor_judged stands answer fits r c.at-point.ensures judgement judges)

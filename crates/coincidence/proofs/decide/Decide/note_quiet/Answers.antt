@@ -1,14 +1,15 @@
-use Rattle.std.proofs.Common.{◌<◌, refl, sym, subst}
-use Rattle.coincidence.proofs.Watched.{point_small}
+use Rattle.std.proofs.Common.{refl}
+use Rattle.coincidence.proofs.Watched.{point_small, point_read}
 use Rattle.coincidence.proofs.TakenAnswer.{quiet_noted}
 use Rattle.coincidence.proofs.decide.Decide.note_quiet.Goals as goal
 
-pub index_mut-watch-requires : goal.index_mut-watch-requires
-index_mut-watch-requires c =
+pub note-requires : goal.note-requires
+note-requires c =
     let q = c.requires in
-    subst (λ n. c.args.answer.now.point < n) (sym c.args.self.now.points.ok.0)
-    (point_small q.stands c.args.answer.now.point (q.may.own 0 c.args.answer.now refl))
+    point_small q.stands c.args.answer.now.point (q.may.own 0 c.args.answer.now refl)
 
-pub returns : goal.returns
-returns c quiet site kept panel done taken stands may =
-    quiet_noted stands c.args.answer.now may quiet c.index_mut-watch.result.now c.note.new.self c.index_mut-watch.ensures.value c.note.ensures
+pub returns-clause-taken : goal.returns-clause-taken
+returns-clause-taken c quiet site kept panel done taken stands may =
+    let answer = c.args.answer.now in
+    let read = point_read stands answer.point (may.own 0 answer refl) in
+    quiet_noted stands answer may quiet read.0 c.note.new.self read.1 (c.note.ensures read.0 read.1)

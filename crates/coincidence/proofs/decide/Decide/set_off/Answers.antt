@@ -1,21 +1,31 @@
-use Rattle.std.proofs.Common.{◌<◌, sym, subst}
+use Rattle.std.proofs.Common.{◌<◌, ◌∷◌, sym, subst}
 use Rattle.site_types.specs.declared.item.Item.TheVariants.{Point, Zone}
-use Rattle.coincidence.specs.Stands.{CanApply, off_operation}
-use Rattle.coincidence.proofs.AppliedOperation.{zone_since, point_since}
+use Rattle.coincidence.specs.Stands.{CanApply, DecidesFor, off_operation}
+use Rattle.coincidence.specs.Premises.{MayApply}
+use Rattle.coincidence.proofs.Watched.{point_read, point_small}
+use Rattle.coincidence.proofs.AppliedOperation.{done_now, zone_since, point_since}
 use Rattle.coincidence.proofs.OperationKinds.{own_zone_off, own_point_off, on_zone_off, on_point_off, own_small, zone_off_stands, point_off_stands, output_off_stands}
 use Rattle.coincidence.proofs.decide.Decide.set_off.Goals as goal
 
-pub set_off-requires : goal.set_off-requires
-set_off-requires c =
+pub set_off-requires-clause-place : goal.set_off-requires-clause-place
+set_off-requires-clause-place c =
+    let off = c.args.off in
+    let point = c.in-Point.point in
+    let q : CanApply c.args.self.now (off_operation off (Point point)) c.args.at.0 =
+    subst (λ i. CanApply c.args.self.now (off_operation off i) c.args.at.0) c.in-Point.is c.requires in
+    point_small q.stands point (own_point_off q.site q.panel off point q.may.own)
+
+pub set_off-requires-clause-since : goal.set_off-requires-clause-since
+set_off-requires-clause-since c watch read =
     let off = c.args.off in
     let point = c.in-Point.point in
     let q : CanApply c.args.self.now (off_operation off (Point point)) c.args.at.0 =
     subst (λ i. CanApply c.args.self.now (off_operation off i) c.args.at.0) c.in-Point.is c.requires in
     point_since q.stands (off_operation off (Point point)) c.args.at q.may point (own_point_off q.site q.panel off point q.may.own)
-    c.index_mut.result.now c.index_mut.ensures.value (on_point_off c.args.at q.panel off point)
+    watch read (on_point_off c.args.at q.panel off point)
 
-pub index_mut-requires-in-Zone : goal.index_mut-requires-in-Zone
-index_mut-requires-in-Zone c =
+pub index_mut-requires : goal.index_mut-requires
+index_mut-requires c =
     let off = c.args.off in
     let zone = c.in-Zone.zone in
     let q : CanApply c.args.self.now (off_operation off (Zone zone)) c.args.at.0 =
@@ -29,17 +39,21 @@ set_off-requires-in-Zone c =
     let q : CanApply c.args.self.now (off_operation off (Zone zone)) c.args.at.0 =
     subst (λ i. CanApply c.args.self.now (off_operation off i) c.args.at.0) c.in-Zone.is c.requires in
     (zone_since q.stands (off_operation off (Zone zone)) c.args.at q.may zone (own_zone_off q.site q.panel off zone q.may.own)
-    c.index_mut-in-Zone.result.now c.index_mut-in-Zone.ensures.value).0 (on_zone_off c.args.at q.panel off zone)
+    c.index_mut.result.now c.index_mut.ensures.value).0 (on_zone_off c.args.at q.panel off zone)
 
 pub returns-in-Point : goal.returns-in-Point
 returns-in-Point c site kept panel done taken stands may =
-    point_off_stands stands c.args.at c.args.off c.args.item.now may c.in-Point.point c.index_mut.result.now c.set_off.new.self c.in-Point.is
-    c.index_mut.ensures.value c.set_off.ensures
+    let point = c.in-Point.point in
+    let own = own_point_off site panel c.args.off point (subst (λ i. MayApply site panel done taken (off_operation c.args.off i) c.args.at.0) c.in-Point.is may).own in
+    let read = point_read stands point own in
+    subst (λ ps. DecidesFor site kept panel (done_now c.args.at panel (off_operation c.args.off c.args.item.now) ∷ done) taken
+    (record c.args.self.now { points = ps })) (sym (c.set_off.ensures read.0 read.1))
+    (point_off_stands stands c.args.at c.args.off c.args.item.now may point read.0 c.in-Point.is read.1)
 
 pub returns-in-Zone : goal.returns-in-Zone
 returns-in-Zone c site kept panel done taken stands may =
-    zone_off_stands stands c.args.at c.args.off c.args.item.now may c.in-Zone.zone c.index_mut-in-Zone.result.now c.set_off-in-Zone.new.self
-    c.in-Zone.is c.index_mut-in-Zone.ensures.value c.set_off-in-Zone.ensures
+    zone_off_stands stands c.args.at c.args.off c.args.item.now may c.in-Zone.zone c.index_mut.result.now c.set_off-in-Zone.new.self
+    c.in-Zone.is c.index_mut.ensures.value c.set_off-in-Zone.ensures
 
 pub returns-in-Output : goal.returns-in-Output
 returns-in-Output c site kept panel done taken stands may =

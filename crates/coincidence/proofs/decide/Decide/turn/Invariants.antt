@@ -1,11 +1,12 @@
-use Rattle.std.proofs.Common.{take}
-use Rattle.answer_lanes.specs.Points.{answer_behind}
+use Rattle.std.proofs.Common.{◌≡◌, take}
+use Rattle.answer_lanes.specs.Points.{answer_at}
 use Rattle.answer_lanes.specs.Runs.{all_items}
 use Rattle.coincidence.specs.Changes.{PutsFindings, TakesAnswers}
 use Rattle.coincidence.proofs.decide.Decide.turn.Given as goal
 
-abbrev pub invariant-loop-run : goal.invariant-loop-run
-invariant-loop-run l = record {
-  taken : TakesAnswers l.initial.self (all_items answer_behind (take l.run-index l.run-items)) l.self;
-  found : PutsFindings l.initial.self (all_items answer_behind (take l.run-index l.run-items)) l.initial.findings l.findings;
+abbrev pub invariant-loop-place : goal.invariant-loop-place
+invariant-loop-place l = record {
+  taken : TakesAnswers l.initial.self (all_items answer_at (take l.place l.initial.self.batch.items)) l.self;
+  found : PutsFindings l.initial.self (all_items answer_at (take l.place l.initial.self.batch.items)) l.initial.findings l.findings;
+  batch : l.self.batch ≡ l.initial.self.batch;
 }

@@ -14,8 +14,8 @@ use Rattle.loop_poller.proofs.Windows.{asked_window, group_of, is_asked_here, ra
 use Rattle.loop_poller.proofs.polled_line.PolledLine.ask.Goals as goal
 use Rattle.loop_poller.proofs.polled_line.PolledLine.ask.Goals.{in-Some-index, in_default-index}
 
-pub bounds-states-point : goal.bounds-states-point
-bounds-states-point c =
+pub at-requires : goal.at-requires
+at-requires c =
     let within : c.loop-address.address - 1 < length c.args.self.now.points.items = omega arith in
     c.requires.known (c.loop-address.address - 1) c.in-Some-index.point
     (read_at c.args.self.now.points.items (c.loop-address.address - 1) c.index.result.now None within c.index.ensures ∙ c.in-Some-index.is)
@@ -65,7 +65,7 @@ loop-address-preserved c =
             | in-Some-index w ↦ (let point = w.in-Some-index.point in
                 let at : point_at site panel line address ≡ Some point = there ∙ w.in-Some-index.is in
                 let known = (point_there site panel line address point at).within in
-                let state = states.each point known in
+                let state = w.at.ensures ∙ states.each point known in
                 let heard = w.heard-heard.ensures site panel line (cables line) stands (on_loop site panel line address point valid at)
                 ∙ ap (λ s. heard_of s (is_reached_on (loop_of site panel line) (cables line) address)) state in
                 let answer : f address ≡ Some (record { stamp = c.args.now; point = point; heard = w.heard-heard.result }) =

@@ -11,8 +11,8 @@ returns c =
       format = c.profile.ensures;
       lines = four_lines c.args.site.now c.args.panel _ _ _ _ c.in_ok-new.ensures c.in_ok-new-2.ensures c.in_ok-new-3.ensures c.in_ok-new-4.ensures;
       states = record {
-        size = ap length (c.in_ok-states.ensures.items_if_clones_equal (λ y e. e)) ∙ length-replicate c.len.result Quiet ∙ c.len.ensures;
-        each = λ point within. ap (λ xs. slice_index_or xs point Quiet) (c.in_ok-states.ensures.items_if_clones_equal (λ y e. e)) ∙ get_or-replicate
+        size = ap length c.in_ok-states.ensures ∙ length-replicate c.len.result Quiet ∙ c.len.ensures;
+        each = λ point within. ap (λ xs. slice_index_or xs point Quiet) c.in_ok-states.ensures ∙ get_or-replicate
             c.len.result point Quiet Quiet (rw c.len.ensures within);
       };
     }

@@ -1,9 +1,8 @@
-use Rattle.std.proofs.Common.{◌≡◌, ◌+◌, ◌*◌, ◌%◌, ◌<◌, arith, length, get_or, ap, ◌∙◌, slice_index_or}
+use Rattle.std.proofs.Common.{◌≡◌, ◌+◌, ◌*◌, ◌%◌, ◌<◌, arith, get_or, ap, ◌∙◌}
 use Rattle.std.proofs.lemmas.Nat.{mod_below}
 use Rattle.std.proofs.lemmas.Option.{slice_get-get_or}
 use Rattle.tick_units.specs.Lane.{LaneState}
 use Rattle.site_types.specs.declared.answer.Answer.{Answer}
-use Rattle.site_types.specs.declared.point_state.PointState.TheVariants.{Quiet}
 use Rattle.site_types.specs.Profile.{round_of}
 use Rattle.loop_poller.specs.Asked.{asked_in, asked_on}
 use Rattle.loop_poller.specs.Calls.{told_cable, told_point}
@@ -35,14 +34,13 @@ ask-requires-clause-known c place point h =
     let lines = c.args.self.now.lines in
     let stands = some.stands.lines k (get_or lines k c.line-item.result) (slice_get-get_or lines k c.line-item.result (omega arith)) in
     let below = knows_points some.site some.panel (k + 1) _ stands.points place point h in
-    let states : length c.deref.result.now ≡ length some.site.points = ap length c.deref.ensures.value ∙ some.stands.states.size in
-    omega (arith, below)
+    let states = some.stands.states.size in
+    omega (arith, below, states)
 
 pub loop-line-preserved : goal.loop-line-preserved
 loop-line-preserved c =
     let k = c.loop-line.line-index in
     let lines = c.args.self.now.lines in
-    let value = c.deref.ensures.value in
     record {
       room = λ n room. c.ask.ensures.room n (c.loop-line.invariant.room (n + 8) (omega (arith, room.0), omega (arith, room.1)));
       put = λ site panel calls stands.
@@ -53,11 +51,7 @@ loop-line-preserved c =
           put_line (asked_on site panel (told_point calls) (told_cable calls) c.args.now.0) k c.args.answers.now c.loop-line.answers c.ask.new.answers
           (c.loop-line.invariant.put site panel calls stands)
           (c.ask.ensures.put site panel (k + 1) (told_point calls) (told_cable calls) stands.valid line
-          (record {
-            size = ap length value ∙ stands.states.size;
-            each = λ point within. ap (λ xs. slice_index_or xs point Quiet) value ∙ stands.states.each point within;
-          })
-          from);
+          stands.states from);
     }
 
 pub returns-clause-asked : goal.returns-clause-asked

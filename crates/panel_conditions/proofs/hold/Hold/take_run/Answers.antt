@@ -1,38 +1,33 @@
-use Rattle.std.proofs.Common.{◌≡◌, ◌-◌, ◌++◌, map, subst, arith}
-use Rattle.std.specs.List.{range_with_len}
-use Rattle.answer_lanes.specs.Points.{finding_behind}
-use Rattle.answer_lanes.specs.Runs.{item_at}
-use Rattle.panel_conditions.specs.Stands.{Watches}
-use Rattle.panel_conditions.proofs.Unchanged.{takes_more}
-use Rattle.panel_conditions.proofs.Runs.{item_more, run_again}
+use Rattle.std.proofs.Common.{◌++◌, ◌∷◌, [], ap, subst}
+use Rattle.answer_lanes.specs.Points.{finding_at}
+use Rattle.panel_conditions.specs.Stands.{WatchesZones}
+use Rattle.panel_conditions.proofs.AlreadyShown.{settled_taken}
+use Rattle.panel_conditions.proofs.Runs.{taken_by_none, taken_by_one}
+use Rattle.panel_conditions.proofs.Watched.{are_numbered, zones_more}
 use Rattle.panel_conditions.proofs.hold.Hold.take_run.Goals as goal
 
-pub returns-then-have_told-clause-watches : goal.returns-then-have_told-clause-watches
-returns-then-have_told-clause-watches c site kept panel done taken h =
-    run_again site kept panel done taken c.args.run.now c.args.self.now (c.is_plain.ensures c.if-is_plain.true)
-    (c.have_told.ensures c.if-have_told.true) h
-
-pub loop-place-preserved : goal.loop-place-preserved
-loop-place-preserved c =
-    let l = c.loop-place in
-    let run = c.args.run.now in
-    let before = map (item_at finding_behind run.first) (range_with_len run.taken (l.place - run.taken)) in
-    record {
-      from = let from = l.invariant.from in omega (arith, from);
-      watches = λ site kept panel done taken h.
-          item_more (λ found. Watches site kept panel done found c.take.new.self) taken run l.place c.item-finding.result l.invariant.from
-          c.item-finding.ensures
-          (c.take.ensures.watches site kept panel done (taken ++ before) (l.invariant.watches site kept panel done taken h));
-      settled = λ site kept panel done taken tick h settled.
-          c.take.ensures.settled site kept panel done (taken ++ before) tick (l.invariant.watches site kept panel done taken h)
-          (l.invariant.settled site kept panel done taken tick h settled);
-      kept = takes_more _ _ _ l.invariant.kept c.take.ensures.kept;
-    }
+pub returns-in_default-clause-watches : goal.returns-in_default-clause-watches
+returns-in_default-clause-watches c site kept panel done taken h = record {
+  zones = taken_by_none site panel done taken c.args.run.now c.args.self.now.zones.watches.items c.in_default.ensures.none h.zones;
+  points = c.take_run.ensures.watches site kept panel done taken h.points;
+  muted = h.muted;
+}
 
 pub returns-clause-watches : goal.returns-clause-watches
-returns-clause-watches c site kept panel done taken h =
-    let l = c.loop-place in
-    let run = c.args.run.now in
-    let whole : l.place - run.taken ≡ run.count = omega arith in
-    subst (λ n. Watches site kept panel done (taken ++ map (item_at finding_behind run.first) (range_with_len run.taken n)) l.self) whole
-    (l.invariant.watches site kept panel done taken h)
+returns-clause-watches c site kept panel done taken h = record {
+  zones =
+      let some = c.in-Some.ensures.some in
+      let watches = c.args.self.now.zones.watches.items in
+      taken_by_one site panel done taken c.args.run.now c.in-Some.place c.take.new.self.watches.items some.0 some.1 some.2
+      (subst (λ f. WatchesZones site panel done (taken ++ f ∷ []) c.take.new.self.watches.items) c.item.ensures
+      (zones_more site panel done taken c.item.result watches c.take.new.self.watches.items c.take.ensures.count
+      (c.take.ensures.watches (are_numbered site panel done taken watches h.zones)) h.zones));
+  points = c.take_run.ensures.watches site kept panel done taken h.points;
+  muted = h.muted;
+}
+
+pub returns-clause-settled : goal.returns-clause-settled
+returns-clause-settled c site kept panel done taken tick h settled =
+    let numbered = are_numbered site panel done taken c.args.self.now.zones.watches.items h.zones in
+    settled_taken tick c.item.result c.args.self.now.zones c.take.new.self numbered (c.take.ensures.watches numbered) c.take.ensures.signs
+    c.take.ensures.moved settled c.take.ensures.marks

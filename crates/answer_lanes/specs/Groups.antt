@@ -1,0 +1,39 @@
+-- Which answers of a group are so, and which finding can stand in one.
+use Rattle.std.specs.Prelude.{◌≡◌, ◌⊎◌, ◌+◌, ◌<◌, ℕ, Bool, min, true}
+use Rattle.site_types.specs.declared.heard.Heard.{Heard}
+use Rattle.site_types.specs.declared.heard.Heard.TheVariants.{Quiet, Silent}
+use Rattle.site_types.specs.Bits.{has_bit}
+use Rattle.coincidence_rules.specs.declared.finding.Finding.{Finding}
+use Rattle.answer_lanes.specs.declared.answer_group.AnswerGroup.{AnswerGroup}
+use Rattle.answer_lanes.specs.declared.finding_group.FindingGroup.{FindingGroup}
+use Rattle.answer_lanes.specs.Points.{heard_at}
+
+-- an answer is quiet and the first bit is set, or it is silent and the other one is
+abbrev pub IsMatching : Heard → Bool → Bool → Type 0
+IsMatching heard quiet silent = ((heard ≡ Quiet) × (quiet ≡ true)) ⊎ ((heard ≡ Silent) × (silent ≡ true))
+
+-- so are the answers of a group, from the one at a place on, whose bits are set
+abbrev pub AreMatching : AnswerGroup → ℕ → ℕ → ℕ → ℕ → Type 0
+AreMatching group from quiet silent bits = (k : ℕ) → k < 8 → has_bit bits k ≡ true
+    → IsMatching (heard_at group.alarms group.silents (from + k)) (has_bit quiet k) (has_bit silent k)
+
+-- a finding tells of no zone
+pub record TellsNone (finding : Finding) : Type 0 where
+  pub counted : finding.counted ≡ 0
+  pub confirmed : finding.confirmed ≡ 0
+  pub manual : finding.manual ≡ 0
+  pub released : finding.released ≡ 0
+
+-- a finding tells of zones what those of a group do that tell of any
+pub record TellsLike (finding : Finding) (group : FindingGroup) : Type 0 where
+  pub counted : finding.counted ≡ group.counted
+  pub confirmed : finding.confirmed ≡ group.confirmed
+  pub manual : finding.manual ≡ group.manual
+  pub released : finding.released ≡ group.released
+
+-- it is of the point at a place, and tells of zones nothing, or what the others do
+pub record CanHave (place : ℕ) (finding : Finding) (group : FindingGroup) : Type 0 where
+  pub within : place < 8
+  pub stamp : finding.stamp ≡ group.stamp
+  pub point : finding.point ≡ min (group.point + place) 65535
+  pub told : (group.telling ≡ 0) ⊎ (TellsNone finding ⊎ TellsLike finding group)

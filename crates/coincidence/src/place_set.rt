@@ -1,0 +1,66 @@
+ghost use Rattle.std.specs.Prelude.{◌≡◌, ◌<◌, ◌≢◌, ◌*◌, ℕ, IfOk, length};
+ghost use Rattle.std.specs.Prelude.{slice_index};
+ghost use Rattle.site_types.specs.Bits.{has_bit};
+
+use std::alloc::Global;
+use tick_units::NoMemory;
+
+/// A set of places, a bit for each.
+#[derive(Drop)]
+pub struct PlaceSet {
+    bytes: Vec<u8>,
+}
+
+impl PlaceSet {
+    ghost use Rattle.coincidence.specs.Places.{AreEight, HasFirst, SetsPlace};
+
+    /// A set that has all of the first places, so many, or none of them.
+    pub fn first(alloc: Global, count: usize, all: bool) -> Result<PlaceSet, NoMemory>
+        ensures { IfOk result (λ set. HasFirst count all set) }
+    {
+        let byte = if all { u8::MAX } else { 0 };
+        let bytes = vec![in alloc; byte; count / 8 + 1]?;
+        Ok(PlaceSet { bytes })
+    }
+
+    /// Puts a place in, or takes it out.
+    pub fn set(&mut self, place: usize, on: bool)
+        requires { place < 8 * length self.old.bytes.items }
+        ensures { SetsPlace place on self.old self.new }
+    {
+        let byte = &mut self.bytes[place / 8];
+        *byte = with_bit_8(*byte, (place % 8) as u8, on);
+    }
+
+    /// Which of the eight places from one on it has, a bit for each.
+    pub fn eight_from(&self, first: usize) -> u8
+        ensures { AreEight self.now first result }
+    {
+        let low = self.byte(first / 8);
+        let high = self.byte(first / 8 + 1);
+        (((high as u16 * 256 + low as u16) >> (first % 8)) % 256) as u8
+    }
+
+    fn byte(&self, place: usize) -> u8
+        ensures { result ≡ slice_index self.now.bytes.items place }
+    {
+        if place < self.bytes.len() {
+            self.bytes[place]
+        } else {
+            0
+        }
+    }
+}
+
+// A byte with one bit set or cleared.
+fn with_bit_8(byte: u8, bit: u8, on: bool) -> u8
+    requires { bit < 8 }
+    ensures this { has_bit result bit ≡ on }
+    ensures others { (k : ℕ) → k < 8 → k ≢ bit → has_bit result k ≡ has_bit byte k }
+{
+    if on {
+        byte | (1 << bit)
+    } else {
+        byte & !(1 << bit)
+    }
+}

@@ -1,0 +1,97 @@
+ghost use Rattle.std.specs.Prelude.{◌≡◌, ◌<◌, ◌+◌, ℕ, IfOk, length, replicate, slice_index_or, slice_set};
+ghost use Rattle.site_types.specs.declared.point_state.PointState.TheVariants.{Quiet};
+ghost use Rattle.site_types.specs.Bits.{has_bit};
+ghost use Rattle.loop_poller.specs.BitRows.{tells_alarm, tells_nothing};
+
+use crate::bit_row::BitRow;
+use site_types::PointState;
+use std::alloc::{AllocError, Global};
+use std::marker::Model;
+
+/// The states of the site's points, by place. Contracts see the list of them.
+#[derive(Drop)]
+pub struct PointStates {
+    states: Vec<PointState>,
+    /// The points in alarm.
+    alarms: BitRow,
+    gone: BitRow,
+}
+
+impl Model for PointStates {
+    ghost use Rattle.std.specs.Prelude.{List};
+    ghost use Rattle.site_types.specs.declared.point_state.PointState.{PointState as State};
+    ghost use Rattle.loop_poller.specs.BitRows.{AreInRows};
+
+    ghost Value = { List State };
+
+    ghost view = { λ s. s.states.items };
+
+    ghost invariant = { λ s. AreInRows s.states.items s.alarms.bytes.items s.gone.bytes.items };
+}
+
+impl PointStates {
+    /// So many points, all quiet.
+    pub fn new(alloc: Global, count: usize) -> Result<PointStates, AllocError>
+        ensures { IfOk result (λ states. states ≡ replicate count Quiet) }
+    {
+        let states = vec![in alloc; PointState::Quiet; count]?;
+        let alarms = BitRow::new(alloc, count)?;
+        let gone = BitRow::new(alloc, count)?;
+        Ok(PointStates {
+            states,
+            alarms,
+            gone,
+        })
+    }
+
+    pub fn set(&mut self, place: u16, state: PointState)
+        requires { place < length self.old }
+        ensures { self.new ≡ slice_set self.old place state }
+    {
+        self.alarms.set(place, is_in_alarm(state));
+        self.gone.set(place, is_gone(state));
+        self.states[place as usize] = state;
+    }
+
+    /// The state of the point at a place.
+    pub fn at(&self, place: u16) -> PointState
+        requires { place < length self.now }
+        ensures { result ≡ slice_index_or self.now place Quiet }
+    {
+        self.states[place as usize]
+    }
+
+    /// Which of eight points are in alarm, from the one at this place on.
+    pub fn alarms_from(&self, first: u16) -> u8
+        ensures { (k : ℕ) → k < 8
+            → has_bit result k ≡ tells_alarm (slice_index_or self.now (first + k) Quiet) }
+    {
+        self.alarms.eight_from(first)
+    }
+
+    /// Which of eight points are gone, from the one at this place on.
+    pub fn gone_from(&self, first: u16) -> u8
+        ensures { (k : ℕ) → k < 8
+            → has_bit result k ≡ tells_nothing (slice_index_or self.now (first + k) Quiet) }
+    {
+        self.gone.eight_from(first)
+    }
+}
+
+fn is_in_alarm(state: PointState) -> bool
+    ensures { result ≡ tells_alarm state }
+{
+    match state {
+        PointState::Alarm => true,
+        PointState::Quiet | PointState::Gone => false,
+    }
+}
+
+fn is_gone(state: PointState) -> bool
+    ensures { result ≡ tells_nothing state }
+{
+    match state {
+        PointState::Gone => true,
+        PointState::Quiet | PointState::Alarm => false,
+    }
+}
