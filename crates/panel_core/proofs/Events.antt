@@ -163,7 +163,7 @@ panel_read site kept before system panel parts h p read =
 pub record PointPanel (site : Site) (kept : Retained) (before : List Moment) (point : ℕ) (plan : PointPlan) (parts : Parts) : Type 0 where
   pub read : PointRead site point plan
   pub stands : StandsInRing site kept (applied site kept before) plan.panel before parts
-  pub within : point < length parts.poller.states.items
+  pub within : point < length parts.poller.states
 
 pub point_panel : (site : Site) (kept : Retained) (before : List Moment) (system : System) (event : Event) (point : ℕ) (state : PointState) (points :
     List PointPlan) (plan : PointPlan) (parts : Parts) → StandsFor site kept before system → has_event site event ≡ true → event ≡ Point point state

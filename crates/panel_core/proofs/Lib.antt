@@ -21,5 +21,5 @@ pub mod PromisedFaces
 -- which panels are marked
 pub mod ShownByHold
 pub mod FacesAlike
-pub mod LonePanels
+pub mod LinkTurns
 pub mod Marked

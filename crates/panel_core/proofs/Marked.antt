@@ -12,32 +12,27 @@ use Rattle.site_types.specs.declared.event.Event.TheVariants.{Confirmed}
 use Rattle.site_types.specs.declared.output.Output.{Output}
 use Rattle.site_types.specs.declared.retained.Retained.{Retained}
 use Rattle.site_types.specs.declared.site.Site.{Site}
-use Rattle.site_types.specs.declared.word.Word.{Word}
 use Rattle.site_types.specs.Done.{Done}
+use Rattle.panel_links.specs.Changes.{KeepsZones}
 use Rattle.operation_desk.specs.declared.done_operation.DoneOperation.{DoneOperation}
 use Rattle.operation_desk.specs.Requests.{done_from, with_done}
-use Rattle.panel_rules.specs.Faces.{buzzer_of}
 use Rattle.panel_rules.specs.Moments.{Moment, Began, Happened, Turned, Kept, IsPanel, IsRun, turn_of, tick_of}
 use Rattle.panel_rules.specs.Outputs.{is_confirmed_out, is_on, outputs_where}
-use Rattle.panel_rules.specs.Run.{facts_of, faults_of, tells_fault}
+use Rattle.panel_rules.specs.Run.{facts_of}
 use Rattle.panel_rules.specs.Timeline.{face_of}
-use Rattle.panel_rules.specs.Words.{latest_word}
-use Rattle.panel_core.specs.declared.hold_shown.HoldShown.{HoldShown}
 use Rattle.panel_core.specs.declared.outputs_shown.OutputsShown.{OutputsShown}
-use Rattle.panel_core.specs.declared.shown_zones.ShownZones.{ShownZones}
 use Rattle.panel_core.specs.declared.system.System.{System}
 use Rattle.panel_parts.specs.Applied.{applied, done_so_far}
 use Rattle.panel_core.specs.Changes.{MakesTaskTurn}
 use Rattle.panel_core.specs.Marks.{AreMarked, MarksEvent, MarksTurn, MarksTurns, RaisesMark, RaisesMarks, ShowsSame, is_marked}
-use Rattle.panel_core.specs.PartsShown.{ShowsByDrive, ShowsByHold}
-use Rattle.panel_core.specs.ShownFaces.{AreOf, NoneBeyond, ShowsZones}
+use Rattle.panel_core.specs.PartsShown.{ShowsAgainByHold, ShowsByDrive}
 use Rattle.panel_core.specs.Stands.{HasPanel, MayTurnTask, StandsFor}
 use Rattle.panel_parts.proofs.Applied.{applied_is_older, applied_stays}
-use Rattle.panel_core.proofs.FacesAlike.{IsUnseen, IsUnseenEvent, alarms_shown, alike_now, confirmed_elsewhere, drive_alike, drive_elsewhere, face_stays}
-use Rattle.panel_core.proofs.FacesAlike.{face_stays_begun, firsts_shown, hold_alike, hold_elsewhere, link_alike, link_elsewhere, unseen_event, unseen_keep, unseen_turn}
-use Rattle.panel_core.proofs.LonePanels.{lone_link}
+use Rattle.panel_core.proofs.FacesAlike.{IsUnseen, IsUnseenEvent, confirmed_elsewhere, drive_alike, drive_elsewhere, face_stays}
+use Rattle.panel_core.proofs.FacesAlike.{face_stays_begun, hold_alike, hold_elsewhere, link_elsewhere, unseen_event, unseen_keep, unseen_turn}
+use Rattle.panel_core.proofs.LinkTurns.{same_link}
 use Rattle.panel_core.proofs.Orders.{turn_is}
-use Rattle.panel_core.proofs.ZonesShown.{are_of, no_alarm, no_first}
+use Rattle.panel_core.proofs.PartTurns.{member_here}
 
 -- a system stands for what it stands for whatever its marks are
 pub stands_marked : (site : Site) (kept : Retained) (before : List Moment) (system : System) (marks : List Bool)
@@ -131,73 +126,27 @@ module _ (old turned new : System) (panel : ℕ) (task : Task) (differs : Bool) 
           subst (λ q. face_of site kept q (Turned panel task ∷ before) ≡ face_of site kept q before) e
           (own site kept before h run (raises.same (subst (λ q. is_marked new.changed q ≡ false) (sym e) unmarked)))
 
-pub hold_marks : {old turned new : System} {panel : ℕ} {differs : Bool} (shown : HoldShown) → turned.changed ≡ old.changed
-    → RaisesMark turned panel differs new → MakesTaskTurn old panel Hold turned → ShowsByHold old panel shown
-    → (differs ≡ false → ShowsByHold turned panel shown) → MarksTurn old panel Hold new.changed
-hold_marks {old} {turned} {new} {panel} {differs} shown same raises made was is =
+pub hold_marks : {old turned new : System} {panel : ℕ} {differs : Bool} → turned.changed ≡ old.changed → RaisesMark turned panel differs new
+    → (differs ≡ false → ShowsAgainByHold old panel) → MarksTurn old panel Hold new.changed
+hold_marks {old} {turned} {new} {panel} {differs} same raises again =
     turn_marks old turned new panel Hold differs same raises
     (λ site kept before p e.
     face_stays site kept p (Turned panel Hold) before refl (hold_elsewhere site kept p (applied site kept before) before panel e) refl)
     (λ site kept before h run alike. (
-    let moment = Turned panel Hold in
-    let then = was site kept before h run.0 in
-    let now = is alike site kept (moment ∷ before) (made site kept before h run) run in
-    let e = applied_stays site kept moment before refl in
-    face_stays site kept panel moment before refl
-    (hold_alike site kept panel (applied site kept before) before
-    (ap (λ done. (latest_word site kept done (tells_fault site kept done) panel (moment ∷ before)).alarm) e ∙ sym now.alarms ∙ then.alarms)
-    (ap (λ done. (latest_word site kept done (tells_fault site kept done) panel (moment ∷ before)).first) e ∙ sym now.firsts ∙ then.firsts)
-    (ap (λ done. faults_of site kept done panel (moment ∷ before)) e ∙ sym now.faults ∙ then.faults)
-    (ap (λ done. buzzer_of site kept done panel (moment ∷ before)) e ∙ sym now.buzzer ∙ then.buzzer))
-    refl))
+    let shown = again alike site kept before h run in
+    face_stays site kept panel (Turned panel Hold) before refl
+    (hold_alike site kept panel (applied site kept before) before shown.alarms shown.firsts shown.faults shown.buzzer) refl))
 
-pub link_marks : {old turned new : System} {panel : ℕ} {differs : Bool} (shown : ShownZones) → turned.changed ≡ old.changed
-    → RaisesMark turned panel differs new → MakesTaskTurn old panel Link turned → ShowsZones old panel shown
-    → (differs ≡ false → ShowsZones turned panel shown) → MarksTurn old panel Link new.changed
-link_marks {old} {turned} {new} {panel} {differs} shown same raises made was is =
+pub link_marks : {old turned new : System} {panel : ℕ} {differs : Bool} → MayTurnTask panel Link old → turned.changed ≡ old.changed
+    → RaisesMark turned panel differs new → MakesTaskTurn old panel Link turned → (differs ≡ false → KeepsZones old.ring panel turned.ring)
+    → MarksTurn old panel Link new.changed
+link_marks {old} {turned} {new} {panel} {differs} may same raises made keeps =
     turn_marks old turned new panel Link differs same raises
     (λ site kept before p e.
     face_stays site kept p (Turned panel Link) before refl (link_elsewhere site kept p (applied site kept before) before panel e) refl)
-    (λ site kept before h run alike. (
-    let moment = Turned panel Link in
-    let now = is alike in
-    let after = made site kept before h run in
-    let e = applied_stays site kept moment before refl in
-    face_stays site kept panel moment before refl
-    (link_alike site kept panel (applied site kept before) before
-    (ap (λ done. alarms_shown site kept panel done (moment ∷ before)) e ∙ sym (alike_now site kept panel (moment ∷ before)).alarms
-    ∙ sym (now.alarms site kept (moment ∷ before) after run) ∙ was.alarms site kept before h run.0
-    ∙ (alike_now site kept panel before).alarms)
-    (ap (λ done. firsts_shown site kept panel done (moment ∷ before)) e ∙ sym (alike_now site kept panel (moment ∷ before)).firsts
-    ∙ sym (now.firsts site kept (moment ∷ before) after run) ∙ was.firsts site kept before h run.0
-    ∙ (alike_now site kept panel before).firsts))
-    refl))
-
--- the only panel of a site shows no zones of others
-pub lone_marks : (old : System) (marks : List Bool) (panel : ℕ) → marks ≡ old.changed → old.site.panels ≡ 1 → MarksTurn old panel Link marks
-lone_marks old marks panel same lone site kept before h run marked p member unmarked =
-    elim (eqb_tells panel p) [
-      | inl t ↦
-          subst (λ q. face_of site kept p (Turned q Link ∷ before) ≡ face_of site kept p before) (sym t.1)
-          (face_stays site kept p (Turned p Link) before refl
-          (lone_link site kept p (applied site kept before) before h.valid (ap (λ (s : Site). s.panels) (sym h.same) ∙ lone) member) refl)
-      | inr t ↦
-          face_stays site kept p (Turned panel Link) before refl (link_elsewhere site kept p (applied site kept before) before panel t.0) refl
-    ]
-    ∙ marked p member (same_mark marks old.changed same p unmarked)
-
--- zones that were shown are of the panels of the site after a turn, too
-pub none_beyond : {panel : ℕ} {task : Task} {system turned : System} (shown : ShownZones) → (may : MayTurnTask panel task system)
-    → MakesTaskTurn system panel task turned → ShowsZones system panel shown → NoneBeyond turned.site.panels shown
-unfolding may_look
-none_beyond {panel} {task} {system} {turned} shown may made shows =
-    let has = may_look may in
-    let after = made may.site may.kept may.before may.stands may.run in
-    let same = ap (λ (s : Site). s.panels) may.stands.same ∙ ap (λ (s : Site). s.panels) (sym after.same) in
-    record {
-      alarms = subst (λ n. AreOf n shown.alarms) same (are_of (λ (w : Word). w.alarm) system panel shown.alarms no_alarm has may.run.0 shows.alarms);
-      firsts = subst (λ n. AreOf n shown.firsts) same (are_of (λ (w : Word). w.first) system panel shown.firsts no_first has may.run.0 shows.firsts);
-    }
+    (λ site kept before h run alike.
+    face_stays site kept panel (Turned panel Link) before refl
+    (same_link site kept panel before old turned h (made site kept before h run) (member_here may h) (keeps alike)) refl)
 
 pub drive_marks : {old turned new : System} {panel : ℕ} {differs : Bool} (shown shown' : OutputsShown) → turned.changed ≡ old.changed
     → RaisesMark turned panel differs new → MakesTaskTurn old panel Drive turned → ShowsByDrive old panel shown → ShowsByDrive turned panel shown'

@@ -3,7 +3,6 @@ use Rattle.std.proofs.Common.{◌≡◌, ◌∙◌, ◌+◌, ◌-◌, ◌≤◌,
 use Rattle.std.proofs.Common.{refl, sym, ap, arith, length-set, replicate}
 use Rattle.std.specs.Prelude.{slice_index_or}
 use Rattle.std.proofs.lemmas.List.{get_or-replicate, get_or-set_other, get_or-set_same}
-use Rattle.std.proofs.lemmas.List.FromFn.{get_or-map-range_with_len}
 use Rattle.site_types.specs.declared.retained.Retained.{Retained}
 use Rattle.site_types.specs.declared.site.Site.{Site}
 use Rattle.site_types.specs.declared.word.Word.{Word}
@@ -18,7 +17,7 @@ use Rattle.panel_rules.specs.Run.{tells_fault}
 use Rattle.panel_rules.specs.Words.{word_made}
 use Rattle.panel_core.specs.declared.system.System.{System}
 use Rattle.panel_parts.specs.Applied.{done_so_far}
-use Rattle.panel_core.specs.ShownFaces.{AreOf, ShowsByWords, ShowsWord}
+use Rattle.panel_core.specs.ShownFaces.{ShowsByWords, ShowsWord}
 use Rattle.panel_core.specs.Stands.{HasPanel, StandsFor}
 use Rattle.panel_core.proofs.Shows.{asked_member}
 use Rattle.panel_core.proofs.WholeFaces.{other_shown}
@@ -111,44 +110,3 @@ module _ (told : Word → ℕ) (system : System) (panel : ℕ) where
       (λ k small. (let place : 1 + k - 1 ≡ k = omega arith in
       sym (ap (λ n. slice_index_or zones n 0) place)
       ∙ right_at site kept before stands nothing has run source zones ended h (1 + k) (omega arith) (omega (arith, small))))
-
--- ---- zones that are compared panel by panel
-
--- the zones of the panels before one are those of the words shown
-abbrev pub ShowsBefore : (Word → ℕ) → System → ℕ → ℕ → List ℕ → Type 0
-ShowsBefore told system panel source zones =
-    (site : Site) (kept : Retained) (before : List Moment) → StandsFor site kept before system → IsRun site.panels before
-    → (q : ℕ) → 1 ≤ q → q < source → slice_index_or zones (q - 1) 0 ≡ told (shown_word site kept (done_so_far site kept before) panel before q)
-
-module _ (told : Word → ℕ) (system : System) (panel : ℕ) (zones : List ℕ) where
-  pub shows_one_more : (source : ℕ) (word : Word) → ShowsBefore told system panel source zones → ShowsWord system panel source word
-      → slice_index_or zones (source - 1) 0 ≡ told word → ShowsBefore told system panel (source + 1) zones
-  shows_one_more source word each shown at site kept before h run q low high =
-      elim (lt_tells q source) [
-        | inl t ↦ each site kept before h run q low t.1
-        | inr t ↦
-            let same : q ≡ source = (let more = t.1 in omega (arith, more, high)) in
-            ap (λ p. slice_index_or zones (p - 1) 0) same ∙ at ∙ ap told (shown site kept before h run)
-            ∙ ap (λ p. told (shown_word site kept (done_so_far site kept before) panel before p)) (sym same)
-      ]
-
-  pub shows_them_all : (source : ℕ) → TellsNone told → HasPanel panel system → source ≡ system.site.panels + 1 → AreOf system.site.panels zones
-      → ShowsBefore told system panel source zones → ShowsByWords told system panel zones
-  shows_them_all source nothing has ended of each =
-      shows_all told system panel source zones nothing has ended
-      (record { wide = of.wide; each = each; none = λ q low behind high. of.none q (omega (arith, behind, ended)) high })
-
-  -- what is shown has no zones of a panel that the site hasn't
-  pub are_of : TellsNone told → (has : HasPanel panel system) → IsRun has.site.panels has.before → ShowsByWords told system panel zones
-      → AreOf system.site.panels zones
-  are_of nothing has run shows =
-      let is = shows has.site has.kept has.before has.stands run in
-      let panels = ap (λ (s : Site). s.panels) has.stands.same in
-      record {
-        wide = ap length is;
-        none = λ q beyond high. (
-            ap (λ xs. slice_index_or xs (q - 1) 0) is
-            ∙ get_or-map-range_with_len (right told system panel has.site has.kept has.before has.stands) 1 8 (q - 1) q 0 (omega (arith, beyond, high))
-            (omega (arith, beyond))
-            ∙ elsewhere told system panel has.site has.kept has.before has.stands nothing has q (omega (arith, beyond, panels)));
-      }

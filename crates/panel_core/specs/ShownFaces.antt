@@ -1,5 +1,5 @@
 -- What a panel shows is the face of the rules.
-use Rattle.std.specs.Prelude.{◌≡◌, ◌-◌, ◌<◌, ◌≤◌, ℕ, List, length, map, slice_index_or}
+use Rattle.std.specs.Prelude.{◌≡◌, ℕ, List, map}
 use Rattle.std.specs.List.{range_with_len}
 use Rattle.site_types.specs.declared.retained.Retained.{Retained}
 use Rattle.site_types.specs.declared.site.Site.{Site}
@@ -40,20 +40,6 @@ ShowsByWords told system panel zones =
 pub record ShowsZones (system : System) (panel : ℕ) (zones : ShownZones) : Type 0 where
   pub alarms : ShowsByWords (λ (word : Word). word.alarm) system panel zones.alarms
   pub firsts : ShowsByWords (λ (word : Word). word.first) system panel zones.firsts
-
--- zones of eight panels, with none of a panel beyond so many
-pub record AreOf (panels : ℕ) (zones : List ℕ) : Type 0 where
-  pub wide : length zones ≡ 8
-  pub none : (panel : ℕ) → panels < panel → panel ≤ 8 → slice_index_or zones (panel - 1) 0 ≡ 0
-
-pub record NoneBeyond (panels : ℕ) (zones : ShownZones) : Type 0 where
-  pub alarms : AreOf panels zones.alarms
-  pub firsts : AreOf panels zones.firsts
-
--- at a place are the zones of a word
-pub record HasWordAt (zones : ShownZones) (place : ℕ) (word : Word) : Type 0 where
-  pub alarms : slice_index_or zones.alarms place 0 ≡ word.alarm
-  pub firsts : slice_index_or zones.firsts place 0 ≡ word.first
 
 -- so only one value meets it, for each run that the system stands for
 abbrev pub FacesArePinned : Type 0

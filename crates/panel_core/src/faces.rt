@@ -7,8 +7,7 @@ use site_types::Word;
 impl System {
     ghost use Rattle.panel_core.specs.PromisedFaces.{PromisedCounter, PromisedFaults, PromisedOutputs};
     ghost use Rattle.panel_core.specs.PromisedFaces.{PromisedSettings, PromisedZones};
-    ghost use Rattle.panel_core.specs.ShownFaces.{NoneBeyond, ShowsFace, ShowsWord, ShowsZones};
-    ghost use Rattle.std.specs.Prelude.{◌≡◌, true};
+    ghost use Rattle.panel_core.specs.ShownFaces.{ShowsFace, ShowsWord, ShowsZones};
     ghost use Rattle.panel_core.specs.Stands.{HasPanel};
 
     /// What a panel shows: its own zones, those of other panels by the words that it keeps of them, its faults, its
@@ -41,7 +40,7 @@ impl System {
     }
 
     // The zones of each panel that a panel shows.
-    pub(crate) fn zones_shown(&self, panel: u8) -> ShownZones
+    fn zones_shown(&self, panel: u8) -> ShownZones
         requires { HasPanel panel self.now }
         ensures { ShowsZones self.now panel result }
     {
@@ -54,22 +53,6 @@ impl System {
             firsts[place] = word.first;
         }
         ShownZones { alarms, firsts }
-    }
-
-    // Whether a panel shows these zones of each panel.
-    pub(crate) fn shows_zones(&self, panel: u8, zones: &ShownZones) -> bool
-        requires panel { HasPanel panel self.now }
-        requires none { NoneBeyond self.now.site.panels zones.now }
-        ensures { result ≡ true → ShowsZones self.now panel zones.now }
-    {
-        for source in 1..self.site.panels + 1 {
-            let place = source as usize - 1;
-            let word = self.word_shown(panel, source);
-            if !zones.has(place, &word) {
-                return false;
-            }
-        }
-        true
     }
 
     // The word of a panel that another one shows, or the panel itself.

@@ -22,13 +22,12 @@
 //! The parts of each panel are those of `panel_parts`; what they are told from elsewhere is what the ring tells.
 //!
 //! [`System::open`] alone takes memory. A tick costs a turn of each seat: Poll looks at 32 addresses, Decide and Hold
-//! take at most 32 items, Link and Effect look at eight words, Drive at the outputs of its panel that have a delay or a
-//! confirmation, Keep once at each panel. An Effect turn with a changed fact evaluates the markers that depend on it. A
-//! tick behind one in which operations were done applies them, at most 64, at each panel.
+//! take at most 32 items, Link looks at twelve words and Effect at eight, Drive at the outputs of its panel that have a
+//! delay or a confirmation, Keep once at each panel. An Effect turn with a changed fact evaluates the markers that
+//! depend on it. A tick behind one in which operations were done applies them, at most 64, at each panel.
 #![tactic(auto)]
 
 mod faces;
-mod hold_shown;
 mod keeping;
 mod laws;
 mod marked_turns;

@@ -1,15 +1,16 @@
 //! The turns of a panel's tasks, but for Desk's and Keep's.
 
-ghost use Rattle.std.specs.Prelude.{◌≡◌};
+ghost use Rattle.std.specs.Prelude.{◌≡◌, false, true};
 
 use crate::system::System;
 use cause_effect::Steps;
-use panel_effects::facts_heard;
 use std::sync::ledger::Ledger;
 
 impl System {
     ghost use Rattle.panel_core.specs.Changes.{MakesTaskTurn};
+    ghost use Rattle.panel_core.specs.PartsShown.{ShowsAgainByHold};
     ghost use Rattle.panel_core.specs.Stands.{MayTurnTask};
+    ghost use Rattle.panel_links.specs.Changes.{KeepsZones};
     ghost use Rattle.panel_core.specs.StepCounts.{CountsTurn};
     ghost use Rattle.tick_units.specs.declared.task.Task.TheVariants.{Decide, Drive, Effect, Hold, Link, Poll, Supply};
 
@@ -40,27 +41,30 @@ impl System {
         parts.supply_turn(self.tick);
     }
 
-    // Hold, with what the ring tells of panels and links.
-    pub(crate) fn hold_turn(&mut self, panel: u8)
+    // Hold, with what the ring tells of panels and links. Tells whether it shows zones, faults and buzzer as before.
+    pub(crate) fn hold_turn(&mut self, panel: u8) -> bool
         requires { MayTurnTask panel Hold self.old }
         ensures turn { MakesTaskTurn self.old panel Hold self.new }
         ensures same { self.new.changed ≡ self.old.changed }
+        ensures again { result ≡ true → ShowsAgainByHold self.old panel }
     {
         let limit = self.site.profile().silent();
         let silent = self.ring.silent(panel, self.tick, limit);
         let links = self.ring.links_down(panel);
         let parts = &mut self.panels[panel as usize - 1];
-        parts.hold_turn(self.tick, silent, links);
+        parts.hold_turn(self.tick, silent, links)
     }
 
-    // Link gives the panel's latest word to the ring, and takes what its neighbours keep.
-    pub(crate) fn link_turn(&mut self, panel: u8)
+    // Link gives the panel's latest word to the ring and takes what its neighbours keep. It tells whether zones of
+    // other panels are other ones now.
+    pub(crate) fn link_turn(&mut self, panel: u8) -> bool
         requires { MayTurnTask panel Link self.old }
         ensures turn { MakesTaskTurn self.old panel Link self.new }
         ensures same { self.new.changed ≡ self.old.changed }
+        ensures zones { result ≡ false → KeepsZones self.old.ring panel self.new.ring }
     {
         let word = self.panels[panel as usize - 1].hold.word();
-        self.ring.turn(self.tick, panel, word);
+        self.ring.telling_turn(self.tick, panel, word)
     }
 
     // Effect goes by the words that the panel keeps.
@@ -70,9 +74,11 @@ impl System {
         ensures same { self.new.changed ≡ self.old.changed }
         ensures steps { CountsTurn self.old panel Effect steps.old steps.new }
     {
-        let facts = facts_heard(&self.ring, self.site.panels, panel);
+        let panels = self.site.panels;
         let parts = &mut self.panels[panel as usize - 1];
-        parts.effects.turn(&self.plan, panel, &facts, steps);
+        parts
+            .effects
+            .turn_by_words(&self.plan, &self.ring, panels, panel, steps);
     }
 
     // Drive, with the outputs that are disabled.

@@ -1,7 +1,9 @@
 ghost use Rattle.std.specs.Prelude.{◌≡◌};
 ghost use Rattle.panel_effects.specs.Masks.{hand_masks};
 
+use crate::heard::{are_heard, facts_heard};
 use cause_effect::{Facts, Plan, Steps, Values};
+use panel_links::Ring;
 use site_types::Requests;
 use std::sync::ledger::Ledger;
 
@@ -19,6 +21,8 @@ pub struct Effects {
 impl Effects {
     ghost use Rattle.panel_effects.specs.Changes.{AsksAsRuled, HasNoTurn, MakesEffectTurn, ReleasesAsRuled};
     ghost use Rattle.panel_effects.specs.Changes.{RisesByChanges, RisesByFactsOfRun};
+    ghost use Rattle.panel_effects.specs.Heard.{RisesByWords, TurnsByWords};
+    ghost use Rattle.panel_links.specs.Stands.{HasPanel};
 
     /// Of a panel whose Effect has had no turn yet: no fact is true, and nothing is asked for.
     pub fn new(panel: u8, plan: &Plan) -> Effects
@@ -54,6 +58,27 @@ impl Effects {
         plan.solve_changed(&hand_before, &hand, &mut self.manual, steps);
         self.requests = plan.requests(panel, &self.normal, &self.manual);
         self.facts = *facts;
+    }
+
+    /// Makes a turn over what the words tell that the panel keeps of the panels of the ring. Each marker that is
+    /// evaluated is a step.
+    pub fn turn_by_words<L: Ledger>(
+        &mut self,
+        plan: &Plan,
+        ring: &Ring,
+        panels: u8,
+        panel: u8,
+        steps: &mut Steps<L>,
+    )
+        requires size { ring.now.panels ≡ panels }
+        requires member { HasPanel ring.now panel }
+        ensures stands { TurnsByWords plan.now ring.now panel self.old self.new }
+        ensures steps { RisesByWords plan.now ring.now panel self.old steps.old steps.new }
+    {
+        if !are_heard(&self.facts, ring, panels, panel) {
+            let facts = facts_heard(ring, panels, panel);
+            self.turn(plan, panel, &facts, steps);
+        }
     }
 
     /// The outputs of the panel that the latest turn asks for, and those that it asks for by hand.

@@ -2,6 +2,9 @@
 pub mod Places
 -- a turn, and that turn by turn the newest word over all chains is kept
 pub mod Turns
+pub mod Newest
 pub mod Chains
 -- links that are down
 pub mod Downs
+-- panels that are silent
+pub mod Silences

@@ -1,5 +1,5 @@
 -- What each panel keeps of each other one, turn by turn.
-use Rattle.std.specs.Prelude.{ℕ, ◌==◌, ◌&&◌, nat_lt, Bool, List, [], ◌∷◌, if◌then◌else◌}
+use Rattle.std.specs.Prelude.{◌≡◌, ℕ, ◌==◌, ◌&&◌, nat_lt, Bool, List, [], ◌∷◌, if◌then◌else◌}
 use Rattle.site_types.specs.declared.word.Word.{Word}
 use Rattle.panel_links.specs.Words.{Call, Linked, Took, carries, is_up, left_of, right_of}
 use Rattle.site_types.specs.Words.{empty_word}
@@ -7,6 +7,11 @@ use Rattle.site_types.specs.Words.{empty_word}
 -- the newer of two words by stamp; of two of one stamp the first, which is the one that was kept
 abbrev pub newest : Word → Word → Word
 newest kept other = if nat_lt kept.stamp.0 other.stamp.0 then other else kept
+
+-- a word tells of the same zones in alarm and in first state as another
+pub record HasZonesOf (word other : Word) : Type 0 where
+  pub alarm : word.alarm ≡ other.alarm
+  pub first : word.first ≡ other.first
 
 -- what is kept after a neighbour's word came, if it comes
 abbrev pub after_word : Bool → Word → Word → Word

@@ -1,15 +1,14 @@
 ghost use Rattle.std.specs.Prelude.{◌≡◌, ◌+◌, ◌≤◌, ◌<◌, ◌==◌, ◌&&◌, [], ◌∷◌, List, ℕ, length, nat_le, slice_index_or};
-ghost use Rattle.std.specs.Prelude.{if◌then◌else◌};
+ghost use Rattle.std.specs.Prelude.{false, true, if◌then◌else◌};
 ghost use Rattle.site_types.specs.Bits.{mask_of};
 ghost use Rattle.panel_links.specs.Words.{Call, Linked, Took, IsHeard, IsNewest, OwnStampsRise};
 ghost use Rattle.site_types.specs.Words.{empty_word};
 ghost use Rattle.panel_links.specs.Words.{group_of, left_of, right_of};
-ghost use Rattle.panel_links.specs.Kept.{kept_word, newest};
+ghost use Rattle.panel_links.specs.Kept.{HasZonesOf, kept_word, newest};
 ghost use Rattle.panel_links.specs.Frames.{after_frame, frame_of};
 
 use crate::frame::Frame;
 use site_types::{Word, mask_from_8, with_bit_8};
-use std::cmp;
 use tick_units::Tick;
 
 /// What each panel of a ring keeps of each other one, and which links are up.
@@ -26,8 +25,8 @@ pub struct Ring {
 }
 
 impl Ring {
-    ghost use Rattle.panel_links.specs.Changes.{KeepsNewest, TakesOver};
-    ghost use Rattle.panel_links.specs.Stands.{HasPanel, StandsFor, is_down_at, is_silent, kept_in};
+    ghost use Rattle.panel_links.specs.Changes.{KeepsNewest, KeepsZones, TakesNewest};
+    ghost use Rattle.panel_links.specs.Stands.{HasPanel, StandsFor, is_down_at, is_silent, is_up_in, kept_in};
 
     /// A ring of 1 to 8 panels. All links are up, and nothing was heard.
     pub fn new(panels: u8) -> Ring
@@ -59,13 +58,27 @@ impl Ring {
             → StandsFor panels (Took now.0 panel own ∷ calls) self.new }
         ensures panels { self.new.panels ≡ self.old.panels }
     {
+        self.telling_turn(now, panel, own);
+    }
+
+    /// Makes the turn of a panel, and tells whether a word that it keeps of another one has other zones in alarm or
+    /// in first state than before.
+    pub fn telling_turn(&mut self, now: Tick, panel: u8, own: Word) -> bool
+        requires { HasPanel self.old panel }
+        ensures stands { (panels : ℕ) (calls : List Call) → StandsFor panels calls self.old
+            → StandsFor panels (Took now.0 panel own ∷ calls) self.new }
+        ensures panels { self.new.panels ≡ self.old.panels }
+        ensures zones { result ≡ false → KeepsZones self.old panel self.new }
+    {
         self.keep(panel, panel, own);
-        if self.panels > 1 {
-            let left = self.left_of(panel);
-            let right = self.right_of(panel);
-            self.take_over(left, left, panel, now);
-            self.take_over(panel, right, panel, now);
+        if self.panels == 1 {
+            return false;
         }
+        let left = self.left_of(panel);
+        let right = self.right_of(panel);
+        let before = self.over(left, left, panel);
+        let after = self.over(panel, right, panel);
+        self.take_newest(panel, before, after, now)
     }
 
     /// The stamp of the word that a panel keeps of another.
@@ -90,7 +103,7 @@ impl Ring {
         ensures newest { (panels : ℕ) (calls : List Call) → StandsFor panels calls self.now
             → OwnStampsRise calls → IsNewest panels of at calls result }
     {
-        self.words[at as usize - 1][of as usize - 1]
+        self.kept(at, of)
     }
 
     /// The links of a panel that are down, by bit `link - 1`.
@@ -117,6 +130,9 @@ impl Ring {
         ensures { (panels : ℕ) (calls : List Call) → StandsFor panels calls self.now
             → result ≡ mask_of 8 (λ k. is_silent panels panel calls now.0 limit (k + 1)) }
     {
+        if self.has_heard_all(panel, now.0.saturating_sub(limit)) {
+            return 0;
+        }
         let mut silent = 0;
         for of in 1..self.panels + 1 {
             let heard = self.heard(panel, of);
@@ -125,6 +141,20 @@ impl Ring {
             }
         }
         silent
+    }
+
+    // Whether the words that a panel keeps are all of that tick or of a later one.
+    fn has_heard_all(&self, panel: u8, earliest: u64) -> bool
+        requires { HasPanel self.now panel }
+        ensures { result ≡ true → (of : ℕ) → HasPanel self.now of
+            → earliest ≤ (kept_in self.now panel of).stamp.0 }
+    {
+        for of in 1..self.panels + 1 {
+            if self.kept(panel, of).stamp.0 < earliest {
+                return false;
+            }
+        }
+        true
     }
 
     /// What a panel sends over its links in a tick.
@@ -177,22 +207,39 @@ impl Ring {
         if panel == self.panels { 1 } else { panel + 1 }
     }
 
-    // Takes what a neighbour keeps over a link, if it is up.
-    fn take_over(&mut self, link: u8, from: u8, at: u8, now: Tick)
-        requires link { (1 ≤ link) × (link ≤ 8) }
-        requires from { HasPanel self.old from }
+    // The panel over a link; where it is down, the panel itself, which keeps nothing newer than it keeps.
+    fn over(&self, link: u8, neighbour: u8, panel: u8) -> u8
+        requires { (1 ≤ link) × (link ≤ 8) }
+        ensures { result ≡ (if is_up_in self.now link then neighbour else panel) }
+    {
+        if self.up[link as usize - 1] {
+            neighbour
+        } else {
+            panel
+        }
+    }
+
+    // Takes the newest of what three panels keep of those of the tick's group, and tells whether zones are others.
+    fn take_newest(&mut self, at: u8, left: u8, right: u8, now: Tick) -> bool
         requires at { HasPanel self.old at }
-        ensures words { TakesOver self.old link from at now.0 self.new }
+        requires left { HasPanel self.old left }
+        requires right { HasPanel self.old right }
+        ensures words { TakesNewest self.old at left right now.0 self.new }
+        ensures zones { result ≡ false → KeepsZones self.old at self.new }
         ensures panels { self.new.panels ≡ self.old.panels }
         ensures links { self.new.up ≡ self.old.up }
     {
-        if self.up[link as usize - 1] {
-            let first = 4 * self.group(now) + 1;
-            let last = cmp::min(first + 3, self.panels);
-            for of in first..last + 1 {
-                self.pass(from, at, of);
-            }
+        let first = 4 * self.group(now) + 1;
+        let mut differ = false;
+        for of in first..first + 4 {
+            let kept = self.kept(at, of);
+            let by_left = self.kept(left, of);
+            let by_right = self.kept(right, of);
+            let word = newer(newer(kept, by_left), by_right);
+            self.keep(at, of, word);
+            differ |= has_other_zones(&word, &kept);
         }
+        differ
     }
 
     // The group of panels whose words a tick carries.
@@ -206,19 +253,6 @@ impl Ring {
         }
     }
 
-    // Takes over a word that another panel keeps if it is newer.
-    fn pass(&mut self, neighbour: u8, at: u8, of: u8)
-        requires neighbour { HasPanel self.old neighbour }
-        requires at { HasPanel self.old at }
-        requires of { HasPanel self.old of }
-        ensures words { KeepsNewest self.old at of (kept_in self.old neighbour of) self.new }
-        ensures panels { self.new.panels ≡ self.old.panels }
-        ensures links { self.new.up ≡ self.old.up }
-    {
-        let word = self.word(neighbour, of);
-        self.take(at, of, word);
-    }
-
     // Keeps a word of a panel if it is newer.
     fn take(&mut self, at: u8, of: u8, word: Word)
         requires at { HasPanel self.old at }
@@ -227,8 +261,9 @@ impl Ring {
         ensures panels { self.new.panels ≡ self.old.panels }
         ensures links { self.new.up ≡ self.old.up }
     {
-        if of <= self.panels && self.word(at, of).stamp.0 < word.stamp.0 {
-            self.keep(at, of, word);
+        if of <= self.panels {
+            let kept = self.kept(at, of);
+            self.keep(at, of, newer(kept, word));
         }
     }
 
@@ -245,9 +280,17 @@ impl Ring {
         }
     }
 
+    fn kept(&self, at: u8, of: u8) -> Word
+        requires at { HasPanel self.now at }
+        requires from { (1 ≤ of) × (of ≤ 8) }
+        ensures { result ≡ kept_in self.now at of }
+    {
+        self.words[at as usize - 1][of as usize - 1]
+    }
+
     fn keep(&mut self, at: u8, of: u8, word: Word)
         requires at { HasPanel self.old at }
-        requires from { HasPanel self.old of }
+        requires from { (1 ≤ of) × (of ≤ 8) }
         ensures words { (a o : ℕ) → HasPanel self.old a → HasPanel self.old o
             → kept_in self.new a o
             ≡ (if (a == at) && (o == of) then word else kept_in self.old a o) }
@@ -256,4 +299,21 @@ impl Ring {
     {
         self.words[at as usize - 1][of as usize - 1] = word;
     }
+}
+
+// The newer of two words by stamp; of two of one stamp the first.
+fn newer(kept: Word, other: Word) -> Word
+    ensures { result ≡ newest kept other }
+{
+    if kept.stamp.0 < other.stamp.0 {
+        other
+    } else {
+        kept
+    }
+}
+
+fn has_other_zones(word: &Word, kept: &Word) -> bool
+    ensures { result ≡ false → HasZonesOf word.now kept.now }
+{
+    word.alarm != kept.alarm || word.first != kept.first
 }

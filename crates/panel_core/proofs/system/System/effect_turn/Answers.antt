@@ -1,7 +1,6 @@
 use Rattle.std.proofs.Common.{◌∙◌, ap, arith, sym}
 use Rattle.site_types.specs.declared.site.Site.{Site}
 use Rattle.hold_calls.specs.Told.{told_in_ring}
-use Rattle.panel_rules.specs.Run.{facts_of}
 use Rattle.panel_parts.specs.Applied.{applied}
 use Rattle.panel_parts.proofs.Panels.{after_effect}
 use Rattle.panel_core.proofs.PartTurns.{parts_here, place_there, ring_there, system_after}
@@ -13,11 +12,11 @@ overflow_sub-panel g c = c.requires.member.0
 pub index_mut-parts-requires : goal.index_mut-parts-requires
 index_mut-parts-requires g c = let there = place_there c.requires in omega (arith, there)
 
-pub facts_heard-facts-requires-clause-size : goal.facts_heard-facts-requires-clause-size
-facts_heard-facts-requires-clause-size g c = let r = c.requires.stands in r.ring.size ∙ ap (λ (s : Site). s.panels) (sym r.same)
+pub turn_by_words-requires-clause-size : goal.turn_by_words-requires-clause-size
+turn_by_words-requires-clause-size g c = let r = c.requires.stands in r.ring.size ∙ ap (λ (s : Site). s.panels) (sym r.same)
 
-pub facts_heard-facts-requires-clause-member : goal.facts_heard-facts-requires-clause-member
-facts_heard-facts-requires-clause-member g c = ring_there c.requires
+pub turn_by_words-requires-clause-member : goal.turn_by_words-requires-clause-member
+turn_by_words-requires-clause-member g c = ring_there c.requires
 
 pub returns-clause-turn : goal.returns-clause-turn
 returns-clause-turn g c site kept before h run =
@@ -25,11 +24,11 @@ returns-clause-turn g c site kept before h run =
     let parts = c.index_mut-parts.result.now in
     let stands = parts_here c.requires h parts c.index_mut-parts.ensures.value in
     system_after c.requires h (λ e. cc) (λ e. cc) _
-    (after_effect site kept done (told_in_ring site kept done c.args.panel) c.args.panel before parts c.turn.new.self stands
-    (c.turn.ensures.stands site (facts_of site kept done) before h.plan.is stands.effects (c.facts_heard-facts.ensures site kept done before h.valid h.ring)))
+    (after_effect site kept done (told_in_ring site kept done c.args.panel) c.args.panel before parts c.turn_by_words.new.self stands
+    (c.turn_by_words.ensures.stands site kept done before h.plan.is h.ring stands.effects))
 
 pub returns-clause-steps : goal.returns-clause-steps
 returns-clause-steps g c site kept before h =
     let done = applied site kept before in
     let stands = parts_here c.requires h c.index_mut-parts.result.now c.index_mut-parts.ensures.value in
-    c.turn.ensures.ruled site (facts_of site kept done) before h.plan.is stands.effects (c.facts_heard-facts.ensures site kept done before h.valid h.ring)
+    c.turn_by_words.ensures.steps site kept done before h.plan.is h.ring stands.effects

@@ -13,8 +13,8 @@ overflow_sub-panel c = c.requires.member.0
 pub index-requires : goal.index-requires
 index-requires c = let there = place_there c.requires in omega (arith, there)
 
-pub turn-requires : goal.turn-requires
-turn-requires c = ring_there c.requires
+pub telling_turn-requires : goal.telling_turn-requires
+telling_turn-requires c = ring_there c.requires
 
 pub returns-clause-turn : goal.returns-clause-turn
 returns-clause-turn c site kept before h run =
@@ -24,5 +24,5 @@ returns-clause-turn c site kept before h run =
     let parts = parts_here c.requires h c.index.result.now c.index.ensures in
     let word = c.word-word.ensures site kept panel done (ring_turns site kept done panel before) parts.holds
     ∙ word_held site kept done panel before h.valid here run.0 in
-    stands_after_link site kept before c.args.self.now panel c.turn.new.self h
-    (took_same site.panels panel _ c.turn.new.self _ _ _ _ h.tick word (c.turn.ensures.stands site.panels _ h.ring))
+    stands_after_link site kept before c.args.self.now panel c.telling_turn.new.self h
+    (took_same site.panels panel _ c.telling_turn.new.self _ _ _ _ h.tick word (c.telling_turn.ensures.stands site.panels _ h.ring))

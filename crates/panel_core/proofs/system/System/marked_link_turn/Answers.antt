@@ -1,6 +1,16 @@
-use Rattle.panel_core.proofs.Marked.{lone_marks}
+use Rattle.std.proofs.Common.{◌∷◌, arith}
+use Rattle.tick_units.specs.declared.task.Task.TheVariants.{Link}
+use Rattle.panel_rules.specs.Moments.{Turned}
+use Rattle.panel_core.proofs.Marked.{link_marks, stands_raised}
 use Rattle.panel_core.proofs.system.System.marked_link_turn.Goals as goal
 
-pub returns-then-self-eq1-clause-marks : goal.returns-then-self-eq1-clause-marks
-returns-then-self-eq1-clause-marks c =
-    lone_marks c.args.self.now c.link_turn.new.self.changed c.args.panel c.link_turn.ensures.same c.if-self-eq1.true
+pub mark-requires : goal.mark-requires
+mark-requires c = let few = c.requires.stands.valid.forms.panels.1 in let last = c.requires.member.1 in (c.requires.member.0, omega (arith, few, last))
+
+pub returns-clause-turn : goal.returns-clause-turn
+returns-clause-turn c site kept before h run =
+    stands_raised c.mark.ensures.rest site kept (Turned c.args.panel Link ∷ before) (c.link_turn-differs.ensures.turn site kept before h run)
+
+pub returns-clause-marks : goal.returns-clause-marks
+returns-clause-marks c =
+    link_marks c.requires c.link_turn-differs.ensures.same c.mark.ensures c.link_turn-differs.ensures.turn c.link_turn-differs.ensures.zones

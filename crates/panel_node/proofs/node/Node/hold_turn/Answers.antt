@@ -22,7 +22,7 @@ returns-clause-turn c site panel kept history h run =
     let now = c.args.self.now.tick.0 in
     let limit = c.silent-limit.ensures ∙ ap silent_of c.profile.ensures ∙ ap (λ (s : Site). silent_of s.format) h.same in
     stands_turned site panel kept history c.args.self.now h Hold c.hold_turn.new.self (λ e. cc) (λ e. cc)
-    (c.hold_turn.ensures site kept done (told_by_frames site kept done panel history) panel before h.parts (applied_past site kept before) h.tick run
+    (c.hold_turn.ensures.turn site kept done (told_by_frames site kept done panel history) panel before h.parts (applied_past site kept before) h.tick run
     (silent_told site kept done panel history c.silent-silent.result now c.silent-limit.result h.tick limit (c.silent-silent.ensures site.panels panel came h.words))
     (links_told site kept done panel history c.links_down-links.result now c.silent-limit.result h.tick limit
     (c.links_down-links.ensures site.panels panel came h.words)))
