@@ -1,23 +1,62 @@
--- The mask of an array of flags for numbers from 1 on.
-use Rattle.std.proofs.Common.{◌≡◌, ◌<◌, ◌+◌, ℕ, Bool, false, List, length, take, drop, ap, ◌∙◌, length-drop, arith}
-use Rattle.std.specs.Prelude.{slice_index_or, slice_range}
+-- What is asked for of a panel's own outputs is what is asked for of all.
+use Rattle.std.proofs.Common.{◌≡◌, ◌∙◌, ◌<◌, ◌≤◌, ◌+◌, ◌^◌, ◌==◌, ◌||◌, ℕ, Bool, true, false, List, [], ◌∷◌, Some, suc, length, take, ap, sym, refl, inl, inr, arith}
 use Rattle.std.specs.List.{list_any}
-use Rattle.std.proofs.lemmas.List.{length-take, get_or-take, get_or-drop}
-use Rattle.site_types.specs.Bits.{mask_of}
+use Rattle.std.specs.Prelude.{slice_get, slice_index_or}
+use Rattle.std.proofs.lemmas.Bool.{cases_lt, ne_eqb}
+use Rattle.std.proofs.lemmas.List.{get_or_past, take_all}
 use Rattle.site_types.specs.declared.output.Output.{Output}
-use Rattle.site_types.proofs.Masks.{mask_same}
-use Rattle.cause_effect.specs.Requests.{asked, asks}
+use Rattle.site_types.specs.declared.requests.Requests.{Requests}
+use Rattle.site_types.specs.declared.site.Site.{Site}
+use Rattle.site_types.specs.Bits.{has_bit}
+use Rattle.site_types.specs.Valid.{IsValid}
+use Rattle.site_types.proofs.ValidSites.{output_numbers}
+use Rattle.site_types.proofs.Masks.{mask_from_bits, mask_same}
+use Rattle.cause_effect.specs.Requests.{asked, asked_among, asks, asks_among, outputs_of}
 
-pub numbers_mask : (panel : ℕ) (values : ℕ → Bool) (outputs : List Output) (numbers : List Bool) → length numbers ≡ 256 →
-    ((number : ℕ) → number < 256 → slice_index_or numbers number false ≡ list_any (asks panel values number) outputs) →
-    mask_of (length (slice_range numbers 1 33)) (λ k. slice_index_or (slice_range numbers 1 33) k false) ≡ asked panel values outputs
-numbers_mask panel values outputs numbers size known =
-    let after = length-drop 1 numbers in
-    let taken = length-take 32 (drop 1 numbers) in
-    let long : length (take 32 (drop 1 numbers)) ≡ 32 = omega (arith, after, taken, size) in
-    ap (λ n. mask_of n (λ k. slice_index_or (slice_range numbers 1 33) k false)) long ∙
-    mask_same 32 (λ k. slice_index_or (slice_range numbers 1 33) k false) (λ bit. list_any (asks panel values (bit + 1)) outputs)
-    (λ k less.
-    let next : 1 + k ≡ k + 1 = omega arith in
-    get_or-take 32 (drop 1 numbers) k false less ∙
-    (get_or-drop 1 numbers k false ∙ (known (1 + k) (omega (arith, less)) ∙ ap (λ n. list_any (asks panel values n) outputs) next)))
+among_one : (values : ℕ → Bool) (number panel : ℕ) (output : Output) (own : Bool) (rest : List Output) (more : Bool)
+    → (output.panel == panel) ≡ own → list_any (asks_among values number) (outputs_of panel rest) ≡ more
+    → list_any (asks_among values number) (outputs_of panel (output ∷ rest)) ≡ (asks panel values number output || more)
+among_one values number panel output true rest more is others = rw (is, others) refl
+among_one values number panel output false rest more is others = rw is others
+
+among_own : (values : ℕ → Bool) (number panel : ℕ) (outputs : List Output)
+    → list_any (asks_among values number) (outputs_of panel outputs) ≡ list_any (asks panel values number) outputs
+among_own values number panel [] = refl
+among_own values number panel (output ∷ rest) =
+    among_one values number panel output (output.panel == panel) rest _ refl (among_own values number panel rest)
+
+pub asked_own : (values : ℕ → Bool) (panel : ℕ) (outputs : List Output) → asked_among values (outputs_of panel outputs) ≡ asked panel values outputs
+asked_own values panel outputs =
+    mask_same 32 (λ bit. list_any (asks_among values (bit + 1)) (outputs_of panel outputs)) (λ bit. list_any (asks panel values (bit + 1)) outputs)
+    (λ bit small. among_own values (bit + 1) panel outputs)
+
+-- the mask of all bits that are known
+pub asked_known : (values : ℕ → Bool) (outputs : List Output) (mask count : ℕ) → mask < 2 ^ 32 → length outputs ≤ count
+    → ((bit : ℕ) → bit < 32 → has_bit mask bit ≡ list_any (asks_among values (bit + 1)) (take count outputs))
+    → mask ≡ asked_among values outputs
+asked_known values outputs mask count fits whole known =
+    mask_from_bits 32 mask (λ bit. list_any (asks_among values (bit + 1)) outputs) fits
+    (λ bit small. known bit small ∙ ap (list_any (asks_among values (bit + 1))) (take_all count outputs whole))
+
+-- outside the panels of a site there is no output
+pub none_beyond : (panel : ℕ) (outputs : List Output) → ((k : ℕ) (output : Output) → slice_get outputs k ≡ Some output → output.panel ≡ panel → ⊥)
+    → outputs_of panel outputs ≡ []
+none_beyond panel [] apart = refl
+none_beyond panel (output ∷ rest) apart =
+    let other : (output.panel == panel) ≡ false = ne_eqb output.panel panel (apart 0 output refl) in
+    rw other (none_beyond panel rest (λ k. apart (suc k)))
+
+pub all_panels : (site : Site) → IsValid site → (lists items : List (List Output)) (count : ℕ) → lists ≡ items → 9 ≤ count → length items ≡ count
+    → ((panel : ℕ) → panel < count → slice_index_or items panel [] ≡ outputs_of panel site.outputs)
+    → (panel : ℕ) → slice_index_or lists panel [] ≡ outputs_of panel site.outputs
+all_panels site valid lists items count is all size known panel = ap (λ xs. slice_index_or xs panel []) is ∙ elim (cases_lt panel count) [
+  | inl small ↦ known panel small
+  | inr beyond ↦ (let past : length items ≤ panel = omega (arith, size, beyond) in
+      get_or_past items panel [] past
+      ∙ sym (none_beyond panel site.outputs (λ k output at of_panel.
+      let low = (output_numbers site valid k output at).1 in omega (arith, low, of_panel, beyond, all))))
+]
+
+pub requests_same : (asked asks_for manual by_hand : ℕ) → asked ≡ asks_for → manual ≡ by_hand
+    → ◌≡◌ {A = Requests} (record { asked = asked; manual = manual }) (record { asked = asks_for; manual = by_hand })
+requests_same asked asks_for manual by_hand one other = rw (one, other) refl

@@ -2,7 +2,7 @@
 use Rattle.std.proofs.Common.{◌≡◌, ◌≤◌, ◌<◌, ◌==◌, ◌+◌, ◌-◌, ◌&&◌, ◌||◌, ◌⊎◌, inl, inr, ℕ, zero, suc, Bool, true}
 use Rattle.std.proofs.Common.{false, List, [], ◌∷◌, Option, Some, nat_eq, length, take, get_or, refl, sym, ap, subst}
 use Rattle.std.proofs.Common.{◌∙◌, arith, if◌then◌else◌}
-use Rattle.std.specs.Prelude.{slice_get}
+use Rattle.std.specs.Prelude.{◌/◌, ◌%◌, slice_get, slice_index_or}
 use Rattle.std.specs.List.{list_any, IsDistinct}
 use Rattle.std.proofs.lemmas.Bool.{cases_lt}
 use Rattle.std.specs.Cmp.Lexicographic.{pointwise}
@@ -12,6 +12,7 @@ use Rattle.std.proofs.lemmas.List.{take_all}
 use Rattle.std.proofs.lemmas.Map.Keys.{apart_from_distinct}
 use Rattle.std.proofs.lemmas.Option.{get_or_from_slice_get, slice_get_within}
 use Rattle.site_types.specs.Bits.{has_bit}
+use Rattle.site_types.specs.Valid.{IsValid}
 use Rattle.site_types.specs.declared.site.Site.{Site}
 use Rattle.site_types.specs.declared.zone.Zone.{Zone}
 use Rattle.site_types.specs.declared.marker.Marker.{Marker}
@@ -350,16 +351,16 @@ none_depends site before after same m (directly n h) = let none = none_changed s
     cc (h, none)
 none_depends site before after same m (through n next term d) = none_depends site before after same next d
 
-pub rose_by_none : (site : Site) (before after : Facts) (steps : ℕ) → AreEqual before after
+pub rose_where_free : (site : Site) (before after : Facts) (steps : ℕ) → ((m : ℕ) → DependsOnChanged site before after m → ⊥)
     → RoseByNumberOf (DependsOnChanged site before after) steps steps
 unfolding IsDistinct
-rose_by_none site before after steps same = (
+rose_where_free site before after steps none = (
   0,
   refl_plus steps,
   record {
     members = [];
     once = tt;
-    all = λ m d. absurd (none_depends site before after same m d);
+    all = λ m d. absurd (none m d);
     only = λ m h. cc;
     counted = refl;
   },
@@ -367,6 +368,29 @@ rose_by_none site before after steps same = (
   where
     refl_plus : (n : ℕ) → n ≡ n + 0
     refl_plus n = omega arith
+
+pub rose_by_none : (site : Site) (before after : Facts) (steps : ℕ) → AreEqual before after
+    → RoseByNumberOf (DependsOnChanged site before after) steps steps
+rose_by_none site before after steps same = rose_where_free site before after steps (none_depends site before after same)
+
+-- where no marker has a fact that changed as a term none depends on one
+pub unmarked_free : (site : Site) (before after : Facts) (marks : Values) → IsValid site
+    → ((m : ℕ) → m < 256 → values_of marks m ≡ has_changed site before after m) → ((m : ℕ) → values_of marks m ≡ false)
+    → (m : ℕ) → DependsOnChanged site before after m → ⊥
+unmarked_free site before after marks valid marked none m (directly n h) =
+    let within : n < length site.markers = depends_within site before after n (directly n h) in
+    let few = valid.forms.few_markers in
+    let same = marked n (omega (arith, within, few)) in
+    let off = none n in
+    cc (h, same, off)
+unmarked_free site before after marks valid marked none m (through n next term d) = unmarked_free site before after marks valid marked none next d
+
+-- and the solution stays
+pub still_solves : (site : Site) (before after : Facts) (order : List ℕ) (v : ℕ → Bool) → IsOrder site order
+    → ((m : ℕ) → DependsOnChanged site before after m → ⊥) → IsSolution site before v → IsSolution site after v
+still_solves site before after order v is free solves =
+    is_solution site after v (order_is_free site order is)
+    (λ m. (carried_first site before after order v is solves).each m ∙ value_kept site before after m (free m))
 
 -- what `==` of two facts says
 pub equal_facts : (before after : Facts)
@@ -386,3 +410,8 @@ equal_facts before after h = record {
 
     faults : Bool
     faults = nat_eq before.faults after.faults
+
+-- what `==` of two sets of markers says
+pub equal_values : (one other : Values) → true ≡ pointwise nat_eq one.words other.words → (m : ℕ) → values_of one m ≡ values_of other m
+equal_values one other h m =
+    ap (λ words. has_bit (slice_index_or words (m / 32) 0) (m % 32)) ((slice_eq-Decides Decides-eqb one.words other.words _ refl).0 (sym h))

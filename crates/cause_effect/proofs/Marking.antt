@@ -1,9 +1,17 @@
 -- The markers that are marked at first are those that have a fact as a term that changed.
-use Rattle.std.proofs.Common.{◌≡◌, ◌≤◌, ◌<◌, ◌==◌, ◌+◌, ◌*◌, ◌-◌, ◌&&◌, ◌||◌, ◌⊎◌, inl, inr, ℕ, zero, suc, Bool, true, false, List, Option, Some, None, refl, sym, ap, subst, ◌∙◌, arith}
+use Rattle.std.proofs.Common.{◌≡◌, ◌≢◌, ◌≤◌, ◌<◌, ◌%◌, ◌^◌, mod-lt, ◌==◌, ◌+◌, ◌*◌, ◌-◌, ◌&&◌, ◌||◌, ◌⊎◌, inl, inr}
+use Rattle.std.proofs.Common.{ℕ, zero, suc, Bool, true, false, List, Option, Some, None, refl, sym, ap, subst, ◌∙◌, arith}
 use Rattle.std.specs.Prelude.{slice_get, slice_index_or}
+use mir.Val.{bits}
+use Rattle.std.specs.Int.{bit_at, bit_not, trailing_zeros, w32}
+use Rattle.std.proofs.lemmas.Nat.{and_le_l}
+use Rattle.std.specs.Int.Bits.{bit_xor}
 use Rattle.std.specs.List.{list_any}
+use Rattle.std.proofs.lemmas.Bool.Decides.{eqb_tells}
+use Rattle.std.proofs.lemmas.Nat.Bits.{bit_at-trailing_zeros, bit_at_xor}
+use Rattle.site_types.proofs.Masks.{has_bit-zero}
 use Rattle.std.proofs.lemmas.Bool.{cases_lt}
-use Rattle.site_types.specs.Bits.{any_below, has_bit}
+use Rattle.site_types.specs.Bits.{any_below, has_bit, with_bit}
 use Rattle.site_types.specs.Valid.{IsValid, IsTerm}
 use Rattle.site_types.specs.declared.site.Site.{Site}
 use Rattle.site_types.specs.declared.zone.Zone.{Zone}
@@ -64,17 +72,6 @@ none_below : (n : ℕ) (test : ℕ → Bool) → ((k : ℕ) → test k ≡ false
 unfolding any_below
 none_below zero test h = refl
 none_below (suc n) test h = rw (none_below n test h) (h n)
-
--- no bit of a mask differs from itself
-none_differs : (bit among : Bool) → (differ bit bit && among) ≡ false
-none_differs true among = refl
-none_differs false among = refl
-
-pub same_word : (sets : List Values) (first before after m : ℕ) → before ≡ after → uses_word sets first before after m ≡ false
-same_word sets first before after m e =
-    subst (λ word. uses_word sets first before word m ≡ false) e
-    (none_below 32 (uses_bit sets first before before m)
-    (λ bit. none_differs (has_bit before bit) (is_user sets (first + bit) m)))
 
 pub below_next : (n : ℕ) (test : ℕ → Bool) → any_below (n + 1) test ≡ (any_below n test || test n)
 unfolding any_below
@@ -300,11 +297,104 @@ panel_more sets before after m panel start zones manual first second third =
     together true z m false b c e f g = cc
     together false z m true b c e f g = cc
 
--- one bit more of a word
-pub bit_more : (sets : List Values) (first before after m bit : ℕ) (old start more : Bool)
-    → start ≡ (old || any_below bit (uses_bit sets first before after m)) →
-    more ≡ (start || uses_bit sets first before after m bit) → more ≡ (old || any_below (bit + 1) (uses_bit sets first before after m))
-bit_more sets first before after m bit old start more e f =
-    f ∙ (ap (λ b. b || uses_bit sets first before after m bit) e ∙
-    (or_more old (any_below bit (uses_bit sets first before after m)) (uses_bit sets first before after m bit) ∙
-    ap (λ b. old || b) (sym (below_next bit (uses_bit sets first before after m)))))
+-- ---- the bits of a word that are left
+
+-- a bit that is left has the marker among its users, the first bit's being at this place
+abbrev pub left_uses : List Values → ℕ → ℕ → ℕ → ℕ → Bool
+left_uses sets first left m bit = has_bit left bit && is_user sets (first + bit) m
+
+same_below : (n : ℕ) (p q : ℕ → Bool) → ((k : ℕ) → p k ≡ q k) → any_below n p ≡ any_below n q
+unfolding any_below
+same_below zero p q same = refl
+same_below (suc n) p q same = rw (same_below n p q same, same n) refl
+
+odd_sum : (x y : ℕ) → x < 2 → y < 2 → ((x + y) % 2 == 1) ≡ differ (x == 1) (y == 1)
+odd_sum zero zero a b = refl
+odd_sum zero (suc zero) a b = refl
+odd_sum (suc zero) zero a b = refl
+odd_sum (suc zero) (suc zero) a b = refl
+odd_sum (suc (suc x)) y a b = absurd (omega (arith, a))
+odd_sum x (suc (suc y)) a b = absurd (omega (arith, b))
+
+differing : (before after k : ℕ) → has_bit (bit_xor before after) k ≡ differ (has_bit before k) (has_bit after k)
+differing before after k =
+    ap (λ b. b == 1) (bit_at_xor before after k)
+    ∙ odd_sum (bit_at before k) (bit_at after k) (mod-lt _ (omega arith)) (mod-lt _ (omega arith))
+
+-- at first all that differ are left
+pub all_left : (sets : List Values) (first before after m : ℕ)
+    → any_below 32 (left_uses sets first (bit_xor before after) m) ≡ uses_word sets first before after m
+all_left sets first before after m =
+    same_below 32 (left_uses sets first (bit_xor before after) m) (uses_bit sets first before after m)
+    (λ bit. ap (λ b. b && is_user sets (first + bit) m) (differing before after bit))
+
+pub none_left : (sets : List Values) (first left m : ℕ) → left ≡ 0 → any_below 32 (left_uses sets first left m) ≡ false
+none_left sets first left m none =
+    none_below 32 (left_uses sets first left m)
+    (λ bit. ap (λ n. has_bit n bit && is_user sets (first + bit) m) none ∙ ap (λ b. b && is_user sets (first + bit) m) (has_bit-zero bit))
+
+-- one bit less is left
+pub record IsCleared (bit left less : ℕ) : Type 0 where
+  pub below : bit < 32
+  pub was : has_bit left bit ≡ true
+  pub this : has_bit less bit ≡ false
+  pub others : (k : ℕ) → k < 32 → k ≢ bit → has_bit less k ≡ has_bit left k
+
+one_of : (sets : List Values) (first left less m bit : ℕ) → IsCleared bit left less → Found 32 (left_uses sets first left m)
+    → (is_user sets (first + bit) m || any_below 32 (left_uses sets first less m)) ≡ true
+one_of sets first left less m bit cleared w = elim (eqb_tells w.number bit) [
+  | inl here ↦ or_left (is_user sets (first + bit) m) (any_below 32 (left_uses sets first less m))
+      (subst (λ k. is_user sets (first + k) m ≡ true) here.1 (and_second (has_bit left w.number) (is_user sets (first + w.number) m) w.passes))
+  | inr apart ↦ or_right (is_user sets (first + bit) m) (any_below 32 (left_uses sets first less m))
+      (below_some 32 (left_uses sets first less m) w.number w.below
+      (both (has_bit less w.number) (is_user sets (first + w.number) m)
+      (cleared.others w.number w.below apart.1 ∙ and_first (has_bit left w.number) (is_user sets (first + w.number) m) w.passes)
+      (and_second (has_bit left w.number) (is_user sets (first + w.number) m) w.passes)))
+]
+
+still_one : (sets : List Values) (first left less m bit : ℕ) → IsCleared bit left less → Found 32 (left_uses sets first less m)
+    → any_below 32 (left_uses sets first left m) ≡ true
+still_one sets first left less m bit cleared w =
+    let has = and_first (has_bit less w.number) (is_user sets (first + w.number) m) w.passes in
+    let apart : w.number ≢ bit = λ here. clash (has_bit less bit) (subst (λ k. has_bit less k ≡ true) here has) cleared.this in
+    below_some 32 (left_uses sets first left m) w.number w.below
+    (both (has_bit left w.number) (is_user sets (first + w.number) m) (sym (cleared.others w.number w.below apart) ∙ has)
+    (and_second (has_bit less w.number) (is_user sets (first + w.number) m) w.passes))
+  where
+    clash : (b : Bool) → b ≡ true → b ≡ false → ⊥
+    clash b e f = cc
+
+pub one_less : (sets : List Values) (first left less m bit : ℕ) → IsCleared bit left less
+    → any_below 32 (left_uses sets first left m) ≡ (is_user sets (first + bit) m || any_below 32 (left_uses sets first less m))
+one_less sets first left less m bit cleared =
+    same_bool (any_below 32 (left_uses sets first left m)) (is_user sets (first + bit) m || any_below 32 (left_uses sets first less m))
+    (λ h. one_of sets first left less m bit cleared (some_below 32 (left_uses sets first left m) h))
+    (λ h. elim (or_cases (is_user sets (first + bit) m) (any_below 32 (left_uses sets first less m)) h) [
+      | inl here ↦ below_some 32 (left_uses sets first left m) bit cleared.below
+          (both (has_bit left bit) (is_user sets (first + bit) m) cleared.was here)
+      | inr rest ↦ still_one sets first left less m bit cleared (some_below 32 (left_uses sets first less m) rest)
+    ])
+
+-- the mark of a bit's users, and what is left without it
+pub bit_less : (sets : List Values) (first left less m bit : ℕ) (all old more : Bool) → IsCleared bit left less
+    → (old || any_below 32 (left_uses sets first left m)) ≡ all → more ≡ (old || is_user sets (first + bit) m)
+    → (more || any_below 32 (left_uses sets first less m)) ≡ all
+bit_less sets first left less m bit all old more cleared known marked =
+    ap (λ b. b || any_below 32 (left_uses sets first less m)) marked
+    ∙ or_more old (is_user sets (first + bit) m) (any_below 32 (left_uses sets first less m))
+    ∙ ap (λ b. old || b) (sym (one_less sets first left less m bit cleared)) ∙ known
+
+-- the lowest bit is one that is left
+pub lowest_is_left : (left : ℕ) → left ≢ 0 → left < 2 ^ 32 → (trailing_zeros w32 left < 32) × (has_bit left (trailing_zeros w32 left) ≡ true)
+lowest_is_left left some fits =
+    let at = bit_at-trailing_zeros w32 left (let e : left ≢ 0 = some in omega (arith, e)) fits in
+    (at.0, ap (λ b. b == 1) at.1)
+
+pub cleared_less : (bit left less : ℕ) → IsCleared bit left less → less ≡ with_bit w32 left bit false → less < left
+cleared_less bit left less cleared is =
+    let low : less ≤ left = subst (λ n. n ≤ left) (sym is) (and_le_l left (bit_not w32 (1 * 2 ^ bit % 2 ^ bits w32))) in
+    let apart : less ≢ left = λ same. clash (has_bit less bit) (ap (λ n. has_bit n bit) same ∙ cleared.was) cleared.this in
+    omega (arith, low, apart)
+  where
+    clash : (b : Bool) → b ≡ true → b ≡ false → ⊥
+    clash b e f = cc

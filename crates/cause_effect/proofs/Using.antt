@@ -1,8 +1,7 @@
 -- Who has a fact or a marker as a term, term by term and marker by marker.
 use Rattle.std.proofs.Common.{◌≡◌, ◌≢◌, ◌≤◌, ◌<◌, ◌==◌, ◌+◌, ◌*◌, ◌-◌, ◌&&◌, ◌||◌, inl, inr, ℕ, zero, suc, Bool, true}
 use Rattle.std.proofs.Common.{false, List, [], ◌∷◌, ◌++◌, Option, Some, None, length, take, drop, get_or}
-use Rattle.std.proofs.Common.{not, refl, sym, ap, ◌∙◌, arith}
-use mathlib.Core.Bool.{beq}
+use Rattle.std.proofs.Common.{refl, sym, ap, ◌∙◌, arith}
 use Rattle.std.specs.Prelude.{slice_get, slice_set, nat_lt}
 use Rattle.std.specs.List.{list_any}
 use Rattle.std.proofs.lemmas.Bool.{cases_lt}
@@ -21,7 +20,6 @@ use Rattle.marker_table.specs.declared.values.Values.{Values}
 use Rattle.marker_table.specs.Equations.{values_of}
 use Rattle.marker_table.specs.Table.{zone_index, input_of}
 use Rattle.marker_table.proofs.Rows.{item_at}
-use Rattle.cause_effect.specs.Changes.{differ}
 use Rattle.cause_effect.specs.Cycles.{is_marker, has_term, terms_of}
 use Rattle.cause_effect.specs.Users.{place_of, looks_at, uses, is_user, has_marker, AreUsersOf, HasNoUsers}
 use Rattle.cause_effect.proofs.Changing.{or_false}
@@ -246,9 +244,3 @@ users_of_marker site valid sets x m fits users = users (512 + x) m ∙ same (sli
 
 pub written_back : {X : Type 0} (n : ℕ) (more old : List X) → length more ≡ n → take n (more ++ drop (length more) old) ≡ more
 written_back n more old same = take-append-le n more (drop (length more) old) (omega (arith, same)) ∙ take_all n more (omega (arith, same))
-
-pub differ_is : (a b x y : Bool) → a ≡ x → b ≡ y → differ x y ≡ not (beq a b)
-differ_is true true x y e f = rw (← e, ← f) refl
-differ_is true false x y e f = rw (← e, ← f) refl
-differ_is false true x y e f = rw (← e, ← f) refl
-differ_is false false x y e f = rw (← e, ← f) refl

@@ -1,5 +1,5 @@
 -- Which outputs of a panel are asked for.
-use Rattle.std.specs.Prelude.{ℕ, ◌+◌, ◌==◌, ◌&&◌, Bool, List}
+use Rattle.std.specs.Prelude.{ℕ, ◌+◌, ◌==◌, ◌&&◌, Bool, List, filter}
 use Rattle.std.specs.List.{list_any}
 use Rattle.site_types.specs.Bits.{mask_of}
 use Rattle.site_types.specs.declared.site.Site.{Site}
@@ -10,6 +10,18 @@ use Rattle.site_types.specs.declared.requests.Requests.{Requests}
 abbrev pub asks : ℕ → (ℕ → Bool) → ℕ → Output → Bool
 asks panel values number output =
     (output.panel == panel) && ((output.number == number) && values output.marker)
+
+-- the outputs of a panel, in the order of the site
+abbrev pub outputs_of : ℕ → List Output → List Output
+outputs_of panel outputs = filter (λ (output : Output). output.panel == panel) outputs
+
+-- an output, of those of one panel, has a number, and its marker is true
+abbrev pub asks_among : (ℕ → Bool) → ℕ → Output → Bool
+asks_among values number output = (output.number == number) && values output.marker
+
+-- of the outputs of one panel those whose markers are true, bit `number - 1` each
+abbrev pub asked_among : (ℕ → Bool) → List Output → ℕ
+asked_among values outputs = mask_of 32 (λ bit. list_any (asks_among values (bit + 1)) outputs)
 
 -- the outputs of a panel whose markers are true, bit `number - 1` each
 abbrev pub asked : ℕ → (ℕ → Bool) → List Output → ℕ

@@ -1,33 +1,38 @@
 //! The outputs of a panel whose markers are true.
 
-ghost use Rattle.std.specs.Prelude.{◌≡◌, ◌<◌, ℕ, false, length, slice_index_or};
-ghost use Rattle.std.specs.List.{list_any};
+ghost use Rattle.std.specs.Prelude.{◌≡◌, ◌<◌, ◌+◌, ◌||◌, ℕ};
+ghost use Rattle.site_types.specs.Bits.{has_bit};
 ghost use Rattle.marker_table.specs.Equations.{values_of};
-ghost use Rattle.cause_effect.specs.Requests.{asked as asked_of, asks};
+ghost use Rattle.cause_effect.specs.Requests.{asked_among, asks_among};
 
 use marker_table::Values;
-use site_types::{Output, mask_from_32};
+use site_types::{Output, Requests, with_bit_32};
 
-// A bit for each output of the panel whose marker is true.
-pub(crate) fn asked(outputs: &[Output], panel: u8, values: &Values) -> u32
-    ensures { result ≡ asked_of panel (values_of values.now) outputs.now }
+// What outputs of one panel are asked for, by one solution and by hand.
+pub(crate) fn requests_among(outputs: &[Output], normal: &Values, manual: &Values) -> Requests
+    ensures asked { result.asked ≡ asked_among (values_of normal.now) outputs.now }
+    ensures manual { result.manual ≡ asked_among (values_of manual.now) outputs.now }
 {
-    let numbers = asked_numbers(outputs, panel, values);
-    mask_from_32(&numbers[1..33])
+    let mut asked = 0;
+    let mut by_hand = 0;
+    for output in outputs {
+        asked = with_output(asked, output, normal);
+        by_hand = with_output(by_hand, output, manual);
+    }
+    Requests {
+        asked,
+        manual: by_hand,
+    }
 }
 
-// Which numbers have an output of the panel whose marker is true.
-fn asked_numbers(outputs: &[Output], panel: u8, values: &Values) -> [bool; 256]
-    ensures size { length result ≡ 256 }
-    ensures known { (number : ℕ) → number < 256
-        → slice_index_or result number false ≡ list_any (asks panel (values_of values.now) number)
-        outputs.now }
+// A mask with the bit of an output, where its marker is true.
+fn with_output(mask: u32, output: &Output, values: &Values) -> u32
+    ensures { (bit : ℕ) → bit < 32 → has_bit result bit
+        ≡ (has_bit mask bit || asks_among (values_of values.now) (bit + 1) output.now) }
 {
-    let mut numbers = [false; 256];
-    for output in outputs {
-        if output.panel == panel && values.is_true(output.marker) {
-            numbers[output.number as usize] = true;
-        }
+    let number = output.number;
+    if 1 <= number && number <= 32 && values.is_true(output.marker) {
+        return with_bit_32(mask, number - 1, true);
     }
-    numbers
+    mask
 }

@@ -1,7 +1,8 @@
-ghost use Rattle.std.specs.Prelude.{◌≡◌, IfErr, IfOk};
+ghost use Rattle.std.specs.Prelude.{◌≡◌, [], ℕ, IfErr, IfOk, slice_index_or};
 ghost use Rattle.site_types.specs.Valid.{IsValid};
 ghost use Rattle.cause_effect.specs.Cycles.{HasNoCycle};
 ghost use Rattle.cause_effect.specs.Refused.{IsRefusal};
+ghost use Rattle.cause_effect.specs.Requests.{outputs_of};
 ghost use Rattle.cause_effect.specs.Stands.{IsPlanOf};
 
 use crate::arranged::Arranged;
@@ -33,17 +34,32 @@ pub fn compile(alloc: Global, site: &Site) -> Result<Plan, PlanRefusal>
             table: MarkerTable::new(alloc, site)?,
             order: arranged.order,
             users: Users::of(alloc, site)?,
-            outputs: copy_of(alloc, site.outputs.as_slice())?,
+            outputs: outputs_by_panel(alloc, site)?,
         }),
     }
 }
 
-fn copy_of(alloc: Global, outputs: &[Output]) -> Result<Items<Output>, NoMemory>
-    ensures { IfOk result (λ copy. copy ≡ outputs.now) }
+// The outputs by the numbers of their panels.
+fn outputs_by_panel(alloc: Global, site: &Site) -> Result<Items<Items<Output>>, NoMemory>
+    requires { IsValid site.now }
+    ensures { IfOk result (λ lists. (panel : ℕ)
+        → slice_index_or lists panel [] ≡ outputs_of panel site.now.outputs) }
 {
-    let mut copy = Vec::with_capacity(alloc, outputs.len())?;
-    for output in outputs {
-        copy.push(*output)?;
+    let mut lists = Vec::with_capacity(alloc, 9)?;
+    for panel in 0..9 {
+        lists.push(outputs_of_panel(alloc, site.outputs.as_slice(), panel)?)?;
     }
-    Ok(Items::from_vec(copy))
+    Ok(Items::from_vec(lists))
+}
+
+fn outputs_of_panel(alloc: Global, outputs: &[Output], panel: u8) -> Result<Items<Output>, NoMemory>
+    ensures { IfOk result (λ own. own ≡ outputs_of panel outputs.now) }
+{
+    let mut own = Vec::new(alloc);
+    for output in outputs {
+        if output.panel == panel {
+            own.push(*output)?;
+        }
+    }
+    Ok(Items::from_vec(own))
 }

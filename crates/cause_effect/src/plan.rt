@@ -1,4 +1,4 @@
-ghost use Rattle.std.specs.Prelude.{◌≡◌, ◌<◌, ℕ, false};
+ghost use Rattle.std.specs.Prelude.{◌≡◌, ◌<◌, [], ℕ, false, slice_index_or, true};
 ghost use Rattle.site_types.specs.declared.site.Site.{Site as SiteOf};
 ghost use Rattle.marker_table.specs.Equations.{values_of};
 ghost use Rattle.cause_effect.specs.Changes.{DependsOnChanged, RoseByNumberOf};
@@ -6,7 +6,7 @@ ghost use Rattle.cause_effect.specs.Requests.{requests_of};
 ghost use Rattle.cause_effect.specs.Solutions.{IsSolution};
 ghost use Rattle.cause_effect.specs.Stands.{IsPlanOf};
 
-use crate::asked::asked;
+use crate::asked::requests_among;
 use crate::users::Users;
 use marker_table::{Facts, MarkerTable, Steps, Values};
 use site_types::{Output, Requests};
@@ -20,7 +20,8 @@ pub struct Plan {
     pub(crate) table: MarkerTable,
     pub(crate) order: Items<u8>,
     pub(crate) users: Users,
-    pub(crate) outputs: Items<Output>,
+    // By the numbers of their panels, of which 0 has none.
+    pub(crate) outputs: Items<Items<Output>>,
 }
 
 impl Plan {
@@ -71,6 +72,9 @@ impl Plan {
             return;
         }
         let mut marks = self.users.marks_of(before, after);
+        if is_none(&marks) {
+            return;
+        }
         for marker in self.order.as_slice() {
             if marks.is_true(*marker as u16) {
                 let value = self.table.evaluate(*marker as u16, after, values, steps);
@@ -86,10 +90,22 @@ impl Plan {
         ensures { (site : SiteOf) → IsPlanOf site self.now
             → result ≡ requests_of site panel (values_of normal.now) (values_of manual.now) }
     {
-        let outputs = self.outputs.as_slice();
-        Requests {
-            asked: asked(outputs, panel, normal),
-            manual: asked(outputs, panel, manual),
+        requests_among(self.outputs_of(panel), normal, manual)
+    }
+
+    fn outputs_of(&self, panel: u8) -> &[Output]
+        ensures { result.now ≡ slice_index_or self.now.outputs panel [] }
+    {
+        match self.outputs.get(panel as usize) {
+            Some(outputs) => outputs.as_slice(),
+            None => &[],
         }
     }
+}
+
+// Whether no marker is true.
+fn is_none(values: &Values) -> bool
+    ensures { result ≡ true → (marker : ℕ) → values_of values.now marker ≡ false }
+{
+    *values == Values::none()
 }

@@ -8,7 +8,7 @@ ghost use Rattle.marker_table.specs.Equations.{values_of};
 ghost use Rattle.cause_effect.specs.Users.{AreUsersOf, faults_from, is_user, markers_from, uses_word};
 
 use marker_table::{Facts, Values};
-use site_types::has_bit_32;
+use site_types::with_bit_32;
 use tick_units::Items;
 
 // Where in the one table the users of call points, of markers and of faults begin, behind those of the 256 zones, and
@@ -75,13 +75,11 @@ impl Users {
             → values_of marks.new m
             ≡ (values_of marks.old m || uses_word self.now.sets first before after m) }
     {
-        if before == after {
-            return;
-        }
-        for bit in 0..32 {
-            if has_bit_32(before, bit) != has_bit_32(after, bit) {
-                self.mark(first + bit as usize, marks);
-            }
+        let mut left = before ^ after;
+        while left != 0 {
+            let bit = left.trailing_zeros() as u8;
+            self.mark(first + bit as usize, marks);
+            left = with_bit_32(left, bit, false);
         }
     }
 

@@ -6,6 +6,7 @@ pub mod PageOrder
 pub mod Listing
 pub mod NamedThings
 pub mod KnownNames
+pub mod NextNames
 pub mod ListItems
 pub mod EqualFaces
 pub mod SameBits

@@ -5,6 +5,7 @@ pub mod EntryLines
 pub mod Faces
 pub mod Holding
 pub mod Lists
+pub mod NextNames
 pub mod ReadSoFar
 pub mod ReadingLaws
 pub mod Reading

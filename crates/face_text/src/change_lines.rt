@@ -5,15 +5,14 @@ ghost use Rattle.panel_edges.specs.Contents.{Grows, GrowsByFront};
 ghost use Rattle.panel_edges.specs.Faults.{HasCause};
 ghost use Rattle.face_text.specs.Changes.{changes_text};
 ghost use Rattle.face_text.specs.Holding.{Puts};
-ghost use Rattle.face_text.specs.Slots.{Thing, buzzer_line as line_of_buzzer, counter_line as line_of_counter};
-ghost use Rattle.face_text.specs.Slots.{delays_line as line_of_delays, line_of, line_of_thing, number_of_buzzer};
+ghost use Rattle.face_text.specs.Slots.{buzzer_line as line_of_buzzer, counter_line as line_of_counter};
+ghost use Rattle.face_text.specs.Slots.{delays_line as line_of_delays, line_of_thing, number_of_buzzer};
 ghost use Rattle.face_text.specs.Slots.{number_of_truth};
 
 use crate::face::Face;
 use crate::face_pair::FacePair;
 use crate::group::Group;
 use crate::held::Held;
-use crate::naming::name_of;
 use crate::words::{buzzer_word, group_word, kind_word, on_word};
 use arrayvec::ArrayString;
 use itoa::Buffer;
@@ -80,14 +79,6 @@ fn is_same_face(before: &Face, after: &Face) -> bool
     ensures { result ≡ true → before.now ≡ after.now }
 {
     before == after
-}
-
-/// The line of a thing of a panel's page; nothing where the site has none.
-pub fn thing_line(site: &Site, panel: u8, group: Group, number: u8, on: bool) -> ArrayString<64>
-    ensures text { result.bytes ≡ line_of site.now panel (Thing group number) (number_of_truth on) }
-    ensures short { length result.bytes ≤ 64 }
-{
-    named_line(panel, group, &name_of(site, panel, group, number), on)
 }
 
 /// The line of a thing that has this name; nothing where the site has none.

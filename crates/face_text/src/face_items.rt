@@ -3,6 +3,7 @@ ghost use Rattle.panel_edges.specs.Faults.{HasCause};
 ghost use Rattle.face_text.specs.Holding.{Puts};
 ghost use Rattle.face_text.specs.Lists.{begun_after, comma, is_in as belongs, item_of, items_in};
 ghost use Rattle.face_text.specs.Lists.{items_of, listed, named_item, quoted};
+ghost use Rattle.face_text.specs.NextNames.{AreNamedBehind};
 ghost use Rattle.face_text.specs.Slots.{HasPlace, kind_of, last_of};
 
 use crate::face::Face;
@@ -10,7 +11,7 @@ use crate::face_list::FaceList;
 use crate::group::Group;
 use crate::held::Held;
 use crate::masks::{is_blank, last_number, shows};
-use crate::naming::name_of;
+use crate::next_names::next_name;
 use crate::page::page;
 use crate::words::kind_word;
 use arrayvec::ArrayString;
@@ -66,8 +67,9 @@ impl FaceItems<'_> {
         if is_blank(self.face, group) {
             return Ok(());
         }
+        let mut passed = 0;
         for place in 0..last_number(group) {
-            self.push_item(group, place + 1, begun, held, out)?;
+            self.push_item(group, place + 1, begun, &mut passed, held, out)?;
         }
         Ok(())
     }
@@ -78,20 +80,25 @@ impl FaceItems<'_> {
         group: Group,
         number: u8,
         begun: &mut bool,
+        passed: &mut usize,
         held: &mut Held,
         out: &mut K,
     ) -> Result<(), Failed>
         requires group { HasPlace group }
         requires number { (1 ≤ number) × (number ≤ last_of group) }
+        requires passed { AreNamedBehind passed.old self.now.site.now self.now.face.now.panel group
+            number }
         ensures text { Puts held.old held.new (K.written out.old) (K.written out.new)
             (listed begun.old (item_of self.now.site.now self.now.face.now group number)) result }
         ensures begun { begun.new
             ≡ begun_after begun.old (item_of self.now.site.now self.now.face.now group number) }
+        ensures passed { AreNamedBehind passed.new self.now.site.now self.now.face.now.panel group
+            number }
         ensures cause { HasCause (K.write_faults out.old) (K.write_faults out.new) result }
         ensures left { K.left out.new ≡ K.left out.old }
         ensures reads { K.read_faults out.new ≡ K.read_faults out.old }
     {
-        match self.item(group, number, *begun) {
+        match self.item(group, number, *begun, passed) {
             Some(item) => {
                 *begun = true;
                 held.push(item.as_str().as_bytes(), out)
@@ -101,9 +108,17 @@ impl FaceItems<'_> {
     }
 
     // The item of a thing that is shown, with a comma in front where the list has begun.
-    fn item(&self, group: Group, number: u8, begun: bool) -> Option<ArrayString<64>>
+    fn item(
+        &self,
+        group: Group,
+        number: u8,
+        begun: bool,
+        passed: &mut usize,
+    ) -> Option<ArrayString<64>>
         requires group { HasPlace group }
         requires number { (1 ≤ number) × (number ≤ last_of group) }
+        requires passed { AreNamedBehind passed.old self.now.site.now self.now.face.now.panel group
+            number }
         ensures text { IfSome result (λ text. text.bytes
             ≡ listed begun (item_of self.now.site.now self.now.face.now group number)) }
         ensures begun { IfSome result (λ text. begun_after begun
@@ -111,11 +126,13 @@ impl FaceItems<'_> {
         ensures short { IfSome result (λ text. length text.bytes ≤ 64) }
         ensures none { IfNone result
             (item_of self.now.site.now self.now.face.now group number ≡ []) }
+        ensures passed { AreNamedBehind passed.new self.now.site.now self.now.face.now.panel group
+            number }
     {
         if !shows(self.face, group, number) {
             return None;
         }
-        let name = name_of(self.site, self.face.panel, group, number)?;
+        let name = next_name(self.site, self.face.panel, group, number, passed)?;
         Some(item_text(begun, group, &name))
     }
 }

@@ -3,14 +3,16 @@ ghost use Rattle.std.specs.List.{flat_map};
 ghost use Rattle.panel_edges.specs.Faults.{HasCause};
 ghost use Rattle.face_text.specs.Changes.{change_of, group_text, groups_text, numbers_text};
 ghost use Rattle.face_text.specs.Holding.{Puts};
+ghost use Rattle.face_text.specs.NextNames.{AreNamedBehind};
 ghost use Rattle.face_text.specs.Slots.{Thing, Delays, Sounding, Count, HasPlace, last_of, page as page_of_panel};
 
-use crate::change_lines::{buzzer_line, counter_line, delays_line, thing_line};
+use crate::change_lines::{buzzer_line, counter_line, delays_line, named_line};
 use crate::face::Face;
 use crate::group::Group;
 use crate::held::Held;
 use crate::masks::{is_same, last_number, shows};
 use crate::next_change::next_change;
+use crate::next_names::next_name;
 use crate::page::page;
 use arrayvec::ArrayString;
 use panel_edges::{Failed, Sink};
@@ -72,31 +74,37 @@ impl FacePair<'_> {
         ensures reads { K.read_faults out.new ≡ K.read_faults out.old }
     {
         let mut next = 1;
+        let mut passed = 0;
         for place in 0..last_number(group) {
             let number = place + 1;
             if next <= number {
                 next = next_change(self.before, self.after, group, number);
             }
             if next <= number {
-                self.push_number(group, number, held, out)?;
+                self.push_number(group, number, &mut passed, held, out)?;
             }
         }
         Ok(())
     }
 
-    // The line of a thing, where it changed.
+    // The line of a thing, where it changed, with what is passed of the site's list of such things.
     fn push_number<K: Sink>(
         &self,
         group: Group,
         number: u8,
+        passed: &mut usize,
         held: &mut Held,
         out: &mut K,
     ) -> Result<(), Failed>
         requires group { HasPlace group }
         requires number { (1 ≤ number) × (number ≤ last_of group) }
+        requires passed { AreNamedBehind passed.old self.now.site.now self.now.after.now.panel group
+            number }
         ensures text { Puts held.old held.new (K.written out.old) (K.written out.new)
             (change_of self.now.site.now self.now.before.now self.now.after.now
             (Thing group number)) result }
+        ensures passed { AreNamedBehind passed.new self.now.site.now self.now.after.now.panel group
+            number }
         ensures cause { HasCause (K.write_faults out.old) (K.write_faults out.new) result }
         ensures left { K.left out.new ≡ K.left out.old }
         ensures reads { K.read_faults out.new ≡ K.read_faults out.old }
@@ -105,7 +113,9 @@ impl FacePair<'_> {
         if shows(self.before, group, number) == on {
             return Ok(());
         }
-        let line = thing_line(self.site, self.after.panel, group, number, on);
+        let panel = self.after.panel;
+        let name = next_name(self.site, panel, group, number, passed);
+        let line = named_line(panel, group, &name, on);
         held.push(line.as_str().as_bytes(), out)
     }
 

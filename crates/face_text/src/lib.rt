@@ -21,10 +21,11 @@
 //!
 //! No call but `read_faces` takes memory. Where two faces are equal, writing their changes compares a fixed
 //! number of machine words and looks at nothing of the site. Else a group of lines is looked at only where
-//! its mask differs, in it at what differs, and what is told is named by a walk over the site's list of such
-//! things. Lines are held back in a room of 1,024 bytes, so that a text goes out in as few writes as that
-//! room allows. Where a tick has more to tell than one face, [`push_changes`] and [`push_answers`] put it
-//! behind what a [`Held`] holds already, and one [`Held::flush`] writes it.
+//! its mask differs, in it at what differs, and what is told of a group is named by one walk over the site's
+//! list of such things, and by a search of it where a panel's don't stand in the order of their numbers. Lines
+//! are held back in a room of 1,024 bytes, so that a text goes out in as few writes as that room allows. Where
+//! a tick has more to tell than one face, [`push_changes`] and [`push_answers`] put it behind what a [`Held`]
+//! holds already, and one [`Held::flush`] writes it.
 #![tactic(auto)]
 
 mod answer_lines;
@@ -41,6 +42,7 @@ mod lists;
 mod masks;
 mod naming;
 mod next_change;
+mod next_names;
 mod op_answer;
 mod op_answers;
 mod page;

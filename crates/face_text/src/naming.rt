@@ -28,7 +28,8 @@ pub fn name_of(site: &Site, panel: u8, group: Group, number: u8) -> Option<Label
     }
 }
 
-fn zone_name(site: &Site, panel: u8, number: u8) -> Option<Label>
+/// The name of a panel's zone.
+pub fn zone_name(site: &Site, panel: u8, number: u8) -> Option<Label>
     ensures { option_map (λ label. label.bytes) result ≡ name_of_zone site.now panel number }
 {
     let found = site
@@ -42,7 +43,8 @@ fn zone_name(site: &Site, panel: u8, number: u8) -> Option<Label>
     }
 }
 
-fn point_name(site: &Site, panel: u8, line: u8, address: u8) -> Option<Label>
+/// The name of a point of a panel's line.
+pub fn point_name(site: &Site, panel: u8, line: u8, address: u8) -> Option<Label>
     ensures { option_map (λ label. label.bytes) result ≡ name_of_point site.now panel line address }
 {
     let found = site.points.as_slice().iter().find(|point| point.panel == panel
@@ -54,7 +56,8 @@ fn point_name(site: &Site, panel: u8, line: u8, address: u8) -> Option<Label>
     }
 }
 
-fn output_name(site: &Site, panel: u8, number: u8) -> Option<Label>
+/// The name of a panel's output.
+pub fn output_name(site: &Site, panel: u8, number: u8) -> Option<Label>
     ensures { option_map (λ label. label.bytes) result ≡ name_of_output site.now panel number }
 {
     let found = site

@@ -1,12 +1,12 @@
-use Rattle.std.proofs.Common.{◌≡◌, ◌≤◌, ◌<◌, ◌+◌, ◌||◌, ap, sym, subst, ◌∙◌, arith, Bool, Some, get_or, length, true, false}
+use Rattle.std.proofs.Common.{◌≡◌, ◌≤◌, ◌<◌, ◌+◌, ◌||◌, ap, refl, sym, subst, ◌∙◌, arith, Bool, Some, get_or, length, true, false}
 use Rattle.std.specs.Prelude.{slice_get}
 use Rattle.std.proofs.lemmas.Option.{slice_get-get_or}
 use Rattle.marker_table.specs.declared.values.Values.{Values}
 use Rattle.marker_table.specs.Equations.{values_of}
 use Rattle.cause_effect.proofs.Changing.{AreCarried, AreEvaluated, AreMarked, carried_all, carried_first, carried_on}
 use Rattle.cause_effect.proofs.Changing.{carried_still, equal_facts, evaluated_all, evaluated_first, evaluated_on}
-use Rattle.cause_effect.proofs.Changing.{evaluated_still, marked_first, marked_here, marked_on, marked_still}
-use Rattle.cause_effect.proofs.Changing.{rose_by_none}
+use Rattle.cause_effect.proofs.Changing.{evaluated_still, marked_first, marked_here, marked_on, marked_still, still_solves, unmarked_free}
+use Rattle.cause_effect.proofs.Changing.{rose_by_none, rose_where_free}
 use Rattle.cause_effect.proofs.Using.{users_of_marker}
 use Rattle.cause_effect.proofs.plan.Plan.solve_changed.Goals as goal
 use Rattle.cause_effect.proofs.plan.Plan.solve_changed.Goals.{then-is_true, else-is_true}
@@ -14,6 +14,18 @@ use Rattle.cause_effect.proofs.plan.Plan.solve_changed.Goals.{then-is_true, else
 pub returns-then-eq-clause-steps : goal.returns-then-eq-clause-steps
 returns-then-eq-clause-steps g c site is =
     rose_by_none site c.args.before.now c.args.after.now c.args.steps.now (equal_facts c.args.before.now c.args.after.now c.if-eq.ensures)
+
+pub returns-then-is_none-clause-solution : goal.returns-then-is_none-clause-solution
+returns-then-is_none-clause-solution g c site is solves =
+    still_solves site c.args.before.now c.args.after.now c.args.self.now.order (values_of c.args.values.now) is.order
+    (unmarked_free site c.args.before.now c.args.after.now c.marks_of-marks.result is.table.valid
+    (c.marks_of-marks.ensures site is.table.valid is.users) (c.if-is_none.ensures refl)) solves
+
+pub returns-then-is_none-clause-steps : goal.returns-then-is_none-clause-steps
+returns-then-is_none-clause-steps g c site is =
+    rose_where_free site c.args.before.now c.args.after.now c.args.steps.now
+    (unmarked_free site c.args.before.now c.args.after.now c.marks_of-marks.result is.table.valid
+    (c.marks_of-marks.ensures site is.table.valid is.users) (c.if-is_none.ensures refl))
 
 pub loop-marker-init : goal.loop-marker-init
 loop-marker-init g c = record {

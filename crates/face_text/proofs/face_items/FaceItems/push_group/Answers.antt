@@ -42,6 +42,7 @@ loop-place-preserved g c =
           c.in_ok-push_item.ensures.text.ok;
       begun = next_begun c.args.begun.now c.loop-place.begun c.push_item.new.begun _ so_far (item (place + 1)) (range_more item place) before.begun
           c.in_ok-push_item.ensures.begun;
+      passed = λ n low. call.passed n (omega (arith, low));
       counted = omega (arith, before.counted, call.cause.later);
       left = call.left ∙ before.left;
       reads = call.reads ∙ before.reads;

@@ -36,6 +36,10 @@ loop-place-preserved g c =
             (moves_as c.loop-place.held c.loop-place.held _ _ _ _ (sym none) (moves_none c.loop-place.held _))))
       ];
       same = λ n past less. same n (omega (arith, past)) less;
+      passed = elim c.if-next-number-2.branch [
+        | then-next-number-2+in_ok-push_number w ↦ rw w.passed-is (λ n low. w.push_number.ensures.passed n (omega (arith, low)))
+        | else-next-number-2 w ↦ rw w.passed-is (λ n low. before.passed n (omega (arith, low)))
+      ];
       counted = elim c.if-next-number-2.branch [
         | then-next-number-2+in_ok-push_number w ↦ rw w.out-is (omega (arith, before.counted, w.push_number.ensures.cause.later))
         | else-next-number-2 w ↦ rw w.out-is before.counted

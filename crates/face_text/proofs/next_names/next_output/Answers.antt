@@ -1,0 +1,52 @@
+use Rattle.std.proofs.Common.{◌≡◌, ◌∙◌, ◌==◌, Some, ap, arith, drop, sym}
+use Rattle.std.specs.Prelude.{option_map}
+use Rattle.std.specs.List.{find}
+use Rattle.site_types.specs.declared.output.Output.{Output}
+use Rattle.face_text.proofs.NextNames.{found_behind, found_first, found_none, has_number}
+use Rattle.face_text.proofs.next_names.next_output.Goals as goal
+
+pub returns-in_default-clause-name : goal.returns-in_default-clause-name
+returns-in_default-clause-name c =
+    let key = λ (x : Output). x.panel == c.args.panel in
+    let number_of = λ (x : Output). x.number in
+    let left : drop c.args.passed.now c.args.site.now.outputs ≡ c.left_of-left.result.now =
+    ap (drop c.args.passed.now) (sym c.as_slice.ensures) ∙ sym c.left_of-left.ensures in
+    ap (option_map (λ (x : Output). x.name.bytes))
+    (sym (found_none key number_of c.left_of-left.result.now c.args.number (sym c.first_output.ensures ∙ c.in_default.is)))
+    ∙ ap (λ xs. option_map (λ (x : Output). x.name.bytes) (find (has_number key number_of c.args.number) xs)) (sym left)
+    ∙ c.requires c.args.number (omega arith)
+
+pub returns-then-output-number-clause-name : goal.returns-then-output-number-clause-name
+returns-then-output-number-clause-name c =
+    let key = λ (x : Output). x.panel == c.args.panel in
+    let number_of = λ (x : Output). x.number in
+    let left : drop c.args.passed.now c.args.site.now.outputs ≡ c.left_of-left.result.now =
+    ap (drop c.args.passed.now) (sym c.as_slice.ensures) ∙ sym c.left_of-left.ensures in
+    ap (λ (x : Output). Some x.name.bytes) c.index-left-skipped.is
+    ∙ ap (option_map (λ (x : Output). x.name.bytes))
+    (sym (found_first key number_of c.left_of-left.result.now c.in-Some.skipped c.args.number c.index-left-skipped.result (sym c.first_output.ensures ∙ c.in-Some.is)
+    (ap number_of (sym c.index-left-skipped.is) ∙ c.if-output-number.true)))
+    ∙ ap (λ xs. option_map (λ (x : Output). x.name.bytes) (find (has_number key number_of c.args.number) xs)) (sym left)
+    ∙ c.requires c.args.number (omega arith)
+
+pub returns-then-output-number-clause-passed : goal.returns-then-output-number-clause-passed
+returns-then-output-number-clause-passed c number low =
+    let key = λ (x : Output). x.panel == c.args.panel in
+    let number_of = λ (x : Output). x.number in
+    let left : drop c.args.passed.now c.args.site.now.outputs ≡ c.left_of-left.result.now =
+    ap (drop c.args.passed.now) (sym c.as_slice.ensures) ∙ sym c.left_of-left.ensures in
+    ap (option_map (λ (x : Output). x.name.bytes))
+    (found_behind key number_of c.args.site.now.outputs c.left_of-left.result.now c.args.passed.now c.in-Some.skipped c.args.number number left
+    (sym c.first_output.ensures ∙ c.in-Some.is) low)
+    ∙ c.requires number low
+
+pub returns-clause-passed : goal.returns-clause-passed
+returns-clause-passed c number low =
+    let key = λ (x : Output). x.panel == c.args.panel in
+    let number_of = λ (x : Output). x.number in
+    let left : drop c.args.passed.now c.args.site.now.outputs ≡ c.left_of-left.result.now =
+    ap (drop c.args.passed.now) (sym c.as_slice.ensures) ∙ sym c.left_of-left.ensures in
+    ap (option_map (λ (x : Output). x.name.bytes))
+    (found_behind key number_of c.args.site.now.outputs c.left_of-left.result.now c.args.passed.now c.in-Some.skipped c.args.number number left
+    (sym c.first_output.ensures ∙ c.in-Some.is) low)
+    ∙ c.requires number low
