@@ -1,4 +1,5 @@
 pub mod Results
+pub mod NextFaces
 pub mod Numbers
 pub mod Progresses
 pub mod Codes

@@ -26,7 +26,7 @@ use Rattle.panel_core.specs.Marks.{AreMarked, before_tick}
 use Rattle.panel_core.specs.Stands.{StandsFor as SystemStands}
 use Rattle.retained_journal.specs.declared.journal.Journal.{Journal}
 use Rattle.site_run.specs.declared.run.Run.{Run}
-use Rattle.site_run.specs.Acting.{MakesTick, MayShow, TurnsAll, failures_with}
+use Rattle.site_run.specs.Acting.{MakesTick, MayShow, MayShowNext, TurnsAll, failures_with}
 use Rattle.site_run.specs.Journals.{IsOpenFor}
 use Rattle.site_run.specs.Records.{Block, Progress, at_beginning, closed, closed_by, moments_by, new_block, ticked}
 use Rattle.site_run.specs.Records.{with_event}
@@ -58,8 +58,8 @@ events_more (x ∷ events) event before = events_more events event (Happened x �
 pub opened : (site : Site) (kept : Retained) (run : Run) → IsValid site → AreCounters kept.counters → IsOpenFor site kept run.journal
     → SystemStands site kept [] run.system → run.is_open ≡ false → run.canonical ≡ canonical_seats site.panels → run.ticks ≡ 0
     → run.store_failures ≡ 0 → run.shown.items ≡ faces_of site kept [] → length run.next.items ≡ site.panels
-    → Stands site kept at_beginning run
-opened site kept run valid counters opens stands shut canonical none fine shown room =
+    → (run.alike ≡ true → run.next.items ≡ run.shown.items) → Stands site kept at_beginning run
+opened site kept run valid counters opens stands shut canonical none fine shown room alike =
     let tried = opens.tried in
     record {
       valid = valid;
@@ -74,6 +74,7 @@ opened site kept run valid counters opens stands shut canonical none fine shown 
       shown = shown;
       marks = λ panel member unmarked. refl;
       room = room;
+      alike = alike;
       count = none;
       failed = fine;
       few = (let start : 0 ≤ last_tick = lit≤ tt in start);
@@ -98,6 +99,7 @@ begun site kept ticks old system h stands marks few short =
       shown = h.shown;
       marks = marks;
       room = h.room;
+      alike = h.alike;
       count = h.count;
       failed = h.failed;
       few = omega (arith, few);
@@ -131,6 +133,7 @@ told_by site kept ticks (Some block) old event system h open_is stands marks sho
       canonical = h.canonical;
       shown = h.shown;
       room = h.room;
+      alike = h.alike;
       count = h.count;
       few = h.few;
       tried = h.tried;
@@ -247,6 +250,7 @@ pub record TickMade (store : Store) (turned run : Run) : Type 0 where
   pub ticks : run.ticks ≡ turned.ticks + 1
   pub failed : run.store_failures ≡ failures_with (has_failed store) turned.store_failures
   pub before : run.next.items ≡ turned.shown.items
+  pub alike : run.alike ≡ true → run.next.items ≡ run.shown.items
 
 module _ (site : Site) (kept : Retained) (store : Store) (old turned run : Run) (turns : TurnsAll old store turned) (made :
     TickMade store turned run) (shows : (before : List Moment) → SystemStands site kept before turned.system → IsRun site.panels before
@@ -291,6 +295,7 @@ module _ (site : Site) (kept : Retained) (store : Store) (old turned run : Run) 
           room =
               ap (λ (fs : List Face). length fs) (shown_were ∙ h.shown)
               ∙ length-map-range_with_len (λ panel. face_of site kept panel (moments ticks)) 1 site.panels;
+          alike = made.alike;
           count = omega (arith, ticked_more, ticks_were, count);
           failed = made.failed ∙ ap (failures_with failed) (ap (λ (r : Run). r.store_failures) turns.rest ∙ h.failed);
           few = omega (arith, few);
@@ -416,6 +421,7 @@ with_page site kept p run page h =
       shown = h.shown;
       marks = h.marks;
       room = h.room;
+      alike = h.alike;
       count = h.count;
       failed = h.failed;
       few = h.few;
@@ -445,3 +451,18 @@ same_room site kept p run h =
     ap (λ (fs : List Face). length fs) h.shown
     ∙ length-map-range_with_len (λ panel. face_of site kept panel (moments p.run)) 1 site.panels
     ∙ sym h.room
+
+-- what they show may be put in place of what they showed
+pub may_show_next : (old turned : Run) (store : Store) (r : MayClose old) → TurnsAll old store turned → MayShowNext turned
+may_show_next old turned store r turns =
+    let same = turns.rest in
+    record {
+      shows = may_show old turned store r turns;
+      room =
+          ap (λ (run : Run). length run.shown.items) same ∙ same_room r.site r.kept r.p old r.stands
+          ∙ sym (ap (λ (run : Run). length run.next.items) same);
+      alike = λ alike.
+          ap (λ (run : Run). run.next.items) same
+          ∙ r.stands.alike (sym (ap (λ (run : Run). run.alike) same) ∙ alike)
+          ∙ sym (ap (λ (run : Run). run.shown.items) same);
+    }

@@ -1,5 +1,6 @@
 -- What each step makes of a run.
-use Rattle.std.specs.Prelude.{◌≡◌, ◌↔◌, ◌+◌, ◌≤◌, ℕ, Bool, false, List, ◌∷◌, length, Option, None, if◌then◌else◌}
+use Rattle.std.specs.Prelude.{◌≡◌, ◌↔◌, ◌+◌, ◌<◌, ◌≤◌, ℕ, Bool, true, false, List, ◌∷◌}
+use Rattle.std.specs.Prelude.{length, Option, None, if◌then◌else◌}
 use Rattle.site_types.specs.declared.event.Event.{Event}
 use Rattle.site_types.specs.declared.retained.Retained.{Retained}
 use Rattle.site_types.specs.declared.site.Site.{Site}
@@ -8,7 +9,7 @@ use Rattle.keep_turn.specs.declared.store.Store.{Store}
 use Rattle.panel_core.specs.declared.system.System.{System}
 use Rattle.retained_journal.specs.Images.{HasRoom}
 use Rattle.panel_core.specs.Keeping.{LeavesAfterTurns, LeavesInTurns, MakesAllTurns}
-use Rattle.panel_core.specs.Marks.{AreMarked, MarksAllTurns, before_tick}
+use Rattle.panel_core.specs.Marks.{AreMarked, MarksAllTurns, before_tick, is_marked}
 use Rattle.panel_core.specs.Stands.{StandsFor as SystemStands}
 use Rattle.panel_rules.specs.Moments.{Moment, IsRun, TickBlock, moments}
 use Rattle.panel_rules.specs.Timeline.{face_of, faces_of}
@@ -49,6 +50,25 @@ ShowAllNow system shown old faces =
     → SystemStands site kept before system → IsRun site.panels before → AreMarked site kept before system.changed
     → length old ≡ site.panels → shown ≡ faces_of site kept (before_tick before)
     → faces ≡ faces_of site kept before
+
+-- none of so many panels is marked
+abbrev pub NoneMarked : System → ℕ → Type 0
+NoneMarked system panels =
+    (place : ℕ) → place < panels → is_marked system.changed (place + 1) ≡ false
+
+-- what the panels show may be put in place of what they showed
+pub record MayShowNext (run : Run) : Type 0 where
+  pub shows : MayShow run.system run.next.items
+  pub room : length run.shown.items ≡ length run.next.items
+  pub alike : run.alike ≡ true → run.next.items ≡ run.shown.items
+
+-- it was put, and what they showed before is at hand
+pub record ShowsNext (old run : Run) : Type 0 where
+  pub rest : run ≡ record old { shown = run.shown; next = run.next; alike = run.alike }
+  pub before : run.next.items ≡ old.shown.items
+  pub shows : ShowAllNow old.system old.shown.items old.next.items run.shown.items
+  pub room : length run.next.items ≡ length run.shown.items
+  pub alike : run.alike ≡ true → run.next.items ≡ run.shown.items
 
 -- an event was told, with the bytes of its code alone
 abbrev pub TellsEvent : Event → Run → Run → Type 0

@@ -57,6 +57,7 @@ pub record Stands (site : Site) (kept : Retained) (p : Progress) (run : Run) : T
   pub shown : run.shown.items ≡ faces_of site kept (moments p.run)
   pub marks : AreMarked site kept (moments_in p) run.system.changed
   pub room : length run.next.items ≡ site.panels
+  pub alike : run.alike ≡ true → run.next.items ≡ run.shown.items
   pub count : run.ticks ≡ length p.run
   pub failed : run.store_failures ≡ failures p.run
   pub few : length (closed false p) ≤ last_tick

@@ -11,7 +11,8 @@ ghost use Rattle.panel_edges.specs.Contents.{Grows, GrowsByFront};
 ghost use Rattle.panel_edges.specs.Faults.{HasCause};
 ghost use Rattle.site_run.specs.Acting.{ClosesBadly, ClosesWell, MakesTicks, MayShow, ShowsFaces, TellsTick};
 ghost use Rattle.site_run.specs.Acting.{TellsEvent};
-ghost use Rattle.site_run.specs.Acting.{LeavesInTick, ShowAllNow, ShowsNow, TurnsAll};
+ghost use Rattle.site_run.specs.Acting.{LeavesInTick, MayShowNext, NoneMarked, ShowAllNow, ShowsNext, ShowsNow};
+ghost use Rattle.site_run.specs.Acting.{TurnsAll};
 ghost use Rattle.site_run.specs.Acting.{failures_with};
 ghost use Rattle.site_run.specs.Disks.{KeepsOn, TurnsOn};
 ghost use Rattle.site_run.specs.Journals.{IsOpenFor};
@@ -48,6 +49,8 @@ pub struct Run {
     pub(crate) shown: Vec<Face>,
     // Where what they show next is put.
     pub(crate) next: Vec<Face>,
+    // Whether both are the same, so that nothing has to be put where nothing changed.
+    pub(crate) alike: bool,
     // Whether the block of a tick is being read, whose turns are yet to be made.
     pub(crate) is_open: bool,
     // The order of its turns, where the record gives one.
@@ -89,6 +92,7 @@ impl Run {
             journal,
             shown,
             next,
+            alike: false,
             is_open: false,
             order: None,
             canonical,
@@ -241,8 +245,22 @@ impl Run {
         self.store_failures = with_failure(self.store_failures, store);
         self.is_open = false;
         self.ticks += 1;
+        self.show_next()
+    }
+
+    // Shows what the panels show after the turns, with what they showed before at hand. Tells whether it may be
+    // something else.
+    fn show_next(&mut self) -> bool
+        requires { MayShowNext self.old }
+        ensures shows { ShowsNext self.old self.new }
+        ensures same { result ≡ false → self.new.next.items ≡ self.new.shown.items }
+    {
+        if self.alike && !is_any_marked(&self.system, self.next.as_slice()) {
+            return false;
+        }
         let changed = show_now(&self.system, self.shown.as_slice(), &mut self.next);
         mem::swap(&mut self.shown, &mut self.next);
+        self.alike = !changed;
         changed
     }
 
@@ -320,6 +338,19 @@ fn show_now(system: &System, shown: &[Face], faces: &mut Vec<Face>) -> bool
         put_face(system, panel, &shown[place], &mut faces[place]);
     }
     changed
+}
+
+// Whether some panel is marked.
+fn is_any_marked(system: &System, faces: &[Face]) -> bool
+    requires { MayShow system.now faces.now }
+    ensures { result ≡ false → NoneMarked system.now (length faces.now) }
+{
+    for place in 0..faces.len() {
+        if system.has_changed(place as u8 + 1) {
+            return true;
+        }
+    }
+    false
 }
 
 fn either(one: bool, other: bool) -> bool

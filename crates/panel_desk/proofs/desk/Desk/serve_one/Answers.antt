@@ -93,3 +93,17 @@ body-body-requires g c =
     let r = c.requires.may in
     let bytes = read_into c.read_request.new.room in
     body_within r.site bytes c.in-Asked.request (subst (λ n. HasWhole n bytes c.in-Asked.request) r.panels_are c.in-Asked.ensures.takes.answered)
+
+pub send-requires-in-Asked : goal.send-requires-in-Asked
+send-requires-in-Asked g c =
+    let r = c.requires.may in
+    let replied = c.reply_to-reply.ensures.replies r.site r.kept r.ticks r.stands r.room in
+    record {
+      may = record {
+        site = r.site;
+        kept = r.kept;
+        ticks = replied.after;
+        stands = replied.stands;
+        at_hand = replied.at_hand;
+      };
+    }
