@@ -1,7 +1,7 @@
-ghost use Rattle.std.specs.Prelude.{◌≡◌, ◌<◌, ◌≢◌, ◌*◌, ℕ, IfOk, length};
+ghost use Rattle.std.specs.Prelude.{◌≡◌, ◌<◌, ◌*◌, IfOk, length};
 ghost use Rattle.std.specs.Prelude.{slice_index};
-ghost use Rattle.site_types.specs.Bits.{has_bit};
 
+use site_types::with_bit_8;
 use std::alloc::Global;
 use tick_units::NoMemory;
 
@@ -49,18 +49,5 @@ impl PlaceSet {
         } else {
             0
         }
-    }
-}
-
-// A byte with one bit set or cleared.
-fn with_bit_8(byte: u8, bit: u8, on: bool) -> u8
-    requires { bit < 8 }
-    ensures this { has_bit result bit ≡ on }
-    ensures others { (k : ℕ) → k < 8 → k ≢ bit → has_bit result k ≡ has_bit byte k }
-{
-    if on {
-        byte | (1 << bit)
-    } else {
-        byte & !(1 << bit)
     }
 }
