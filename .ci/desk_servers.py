@@ -13,7 +13,7 @@ import time
 TOP = pathlib.Path(__file__).resolve().parent.parent
 SITE = TOP / "cases" / "one-whole" / "site.toml"
 SCHOOL = TOP / "cases" / "school"
-TRIALS = TOP / "crates" / "desk_trials"
+TRIALS = TOP / "crates" / "trials"
 HOST = "127.0.0.1"
 SECONDS = 10  # that one connection may take
 PHRASES = {200: "OK", 400: "Bad Request", 403: "Forbidden", 404: "Not Found", 405: "Method Not Allowed", 409: "Conflict",

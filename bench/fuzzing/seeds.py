@@ -66,7 +66,7 @@ def stored(caller):
 
 def stored_tables():
     """The tables to import that stand in the repository."""
-    paths = [*TOP.glob("cases/**/*.csv"), *TOP.glob("crates/*_trials/data/*.csv")]
+    paths = [*TOP.glob("cases/**/*.csv"), *TOP.glob("crates/trials/data/*/*.csv")]
     return sorted({path.read_bytes() for path in paths if path.stat().st_size <= LARGEST_SEED})
 
 

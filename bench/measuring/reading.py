@@ -8,7 +8,7 @@ from measuring.inputs import draws, large_site, record
 from measuring.programs import function_of, instructions, processor_seconds, text_of
 
 TOP = pathlib.Path(__file__).resolve().parent.parent.parent
-TRIALS = pathlib.Path(os.environ.get("TRIALS", TOP / "crates" / "text_trials" / "out" / "text_trials"))
+TRIALS = pathlib.Path(os.environ.get("TRIALS", TOP / "crates" / "trials" / "out" / "trials"))
 TEXT_BYTES = 1_048_576
 
 
@@ -51,22 +51,24 @@ def mixed(names):
 def measure_texts(panel, folder, seed, text, names):
     """A text of a run, cut to 1 MB at a line's end, with a last line that is none, so that it is read and nothing is written again."""
     if not TRIALS.exists():
-        return print("text_trials isn't built: texts aren't read")
+        return print("trials isn't built: texts aren't read")
     panel.give_site(text)
     record(folder / "record", seed, mixed(names), 20_000)
     whole = text_of(panel.run(), folder / "record")
     room = folder / "texts"
     room.mkdir()
     (room / "site.toml").write_text(text)
+    (room / "text").mkdir()
+    (room / "text" / "cases").write_text("text site.toml a.text\n")
+    lists = room / "lists"
+    lists.write_text("text\n")
     times, counts, lengths = [], [], []
     for part in (TEXT_BYTES // 2, TEXT_BYTES):
         cut = whole[: whole.rindex(b"\n", 0, part) + 1] + b"none\n"
         (room / "a.text").write_bytes(cut)
-        case = room / "case"
-        case.write_text("text site.toml a.text\n")
         lengths.append(len(cut))
-        counts.append(in_folder(room, instructions, [TRIALS], case))
-        times.append(min(in_folder(room, processor_seconds, [TRIALS], case) for _ in range(7)))
+        counts.append(in_folder(room, instructions, [TRIALS], lists))
+        times.append(min(in_folder(room, processor_seconds, [TRIALS], lists) for _ in range(7)))
     tell("read_faces", counts[1] - counts[0], lengths[1] - lengths[0])
     print(f"read_faces: {1e3 * (times[1] - times[0]) * TEXT_BYTES / (lengths[1] - lengths[0]):,.1f} milliseconds of one processor for {TEXT_BYTES:,} bytes")
 

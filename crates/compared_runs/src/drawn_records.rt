@@ -7,7 +7,7 @@ use crate::pace::Pace;
 use anyhow::Result;
 use rand_pcg::Pcg32;
 use site_types::{Output, OutputKind, Site};
-use std::alloc::Global;
+use std::alloc::{AllocError, Global};
 use tick_units::{Order, Seat, Task};
 use trial_cases::{Lines, below};
 
@@ -20,23 +20,46 @@ pub fn drawn_record(alloc: Global, site: &Site, pace: &Pace, draws: &mut Pcg32) 
     for tick in 1..=pace.ticks {
         lines.count("tick ", tick);
         lines.say("\n");
-        if below(draws, 4) > 0 {
-            say_order(alloc, &mut lines, site.panels, draws)?;
-        }
-        if pace.one_in > 1 && below(draws, pace.one_in) > 0 {
-            continue;
-        }
-        for _event in 0..below(draws, 3) {
-            say_report(alloc, &mut lines, site, draws)?;
-        }
-        if below(draws, 2) == 0 {
-            for _operation in 0..below(draws, 7) {
-                say_operation(alloc, &mut lines, site, draws)?;
-            }
-        }
+        say_tick(alloc, &mut lines, site, pace, draws)?;
     }
     lines.say("end\n");
     lines.done()
+}
+
+// What stands in a tick behind its line.
+fn say_tick(
+    alloc: Global,
+    lines: &mut Lines,
+    site: &Site,
+    pace: &Pace,
+    draws: &mut Pcg32,
+) -> Result<()>
+    requires { IsValid site.now }
+{
+    if below(draws, 4) > 0 {
+        say_order(alloc, lines, site.panels, draws)?;
+    }
+    if pace.one_in > 1 && below(draws, pace.one_in) > 0 {
+        return Ok(());
+    }
+    say_reports(alloc, lines, site, draws)?;
+    say_operations(alloc, lines, site, draws)
+}
+
+fn say_reports(alloc: Global, lines: &mut Lines, site: &Site, draws: &mut Pcg32) -> Result<()> {
+    for _event in 0..below(draws, 3) {
+        say_report(alloc, lines, site, draws)?;
+    }
+    Ok(())
+}
+
+fn say_operations(alloc: Global, lines: &mut Lines, site: &Site, draws: &mut Pcg32) -> Result<()> {
+    if below(draws, 2) == 0 {
+        for _operation in 0..below(draws, 7) {
+            say_operation(alloc, lines, site, draws)?;
+        }
+    }
+    Ok(())
 }
 
 // One of these words.
@@ -48,8 +71,20 @@ fn one_of<'a>(words: &[&'a str], draws: &mut Pcg32) -> &'a str {
     }
 }
 
-// An order of turns: each seat is put before or behind those that stand already.
 fn say_order(alloc: Global, lines: &mut Lines, panels: u8, draws: &mut Pcg32) -> Result<()>
+    requires { IsPanelCount panels }
+{
+    let seats = drawn_seats(alloc, panels, draws)?;
+    lines.say("order");
+    for seat in &seats {
+        say_seat(lines, *seat);
+    }
+    lines.say("\n");
+    Ok(())
+}
+
+// An order of turns: each seat is put before or behind those that stand already.
+fn drawn_seats(alloc: Global, panels: u8, draws: &mut Pcg32) -> Result<Vec<Seat>, AllocError>
     requires { IsPanelCount panels }
 {
     let canonical = Order::canonical(panels);
@@ -58,12 +93,7 @@ fn say_order(alloc: Global, lines: &mut Lines, panels: u8, draws: &mut Pcg32) ->
         let at = below(draws, seats.len().saturating_add(1) as u64);
         seats.insert((at as usize).min(seats.len()), canonical.seat(place))?;
     }
-    lines.say("order");
-    for seat in &seats {
-        say_seat(lines, *seat);
-    }
-    lines.say("\n");
-    Ok(())
+    Ok(seats)
 }
 
 fn say_seat(lines: &mut Lines, seat: Seat) {
@@ -91,14 +121,17 @@ fn say_report(alloc: Global, lines: &mut Lines, site: &Site, draws: &mut Pcg32) 
         1 => say_supply(lines, site, draws),
         2 if site.panels > 1 => say_link(lines, site, draws),
         3 | 4 if has_confirming(site) => say_confirmation(alloc, lines, site, draws)?,
-        _ => {
-            lines.say("point ");
-            let panel = drawn_panel(site, draws);
-            lines.say(one_of(&points_of(alloc, site, panel)?, draws));
-            lines.say(one_of(&[" alarm", " alarm", " quiet", " gone"], draws));
-        }
+        _ => say_point(alloc, lines, site, draws)?,
     }
     lines.say("\n");
+    Ok(())
+}
+
+fn say_point(alloc: Global, lines: &mut Lines, site: &Site, draws: &mut Pcg32) -> Result<()> {
+    lines.say("point ");
+    let panel = drawn_panel(site, draws);
+    lines.say(one_of(&points_of(alloc, site, panel)?, draws));
+    lines.say(one_of(&[" alarm", " alarm", " quiet", " gone"], draws));
     Ok(())
 }
 
@@ -148,22 +181,28 @@ fn say_operation(alloc: Global, lines: &mut Lines, site: &Site, draws: &mut Pcg3
         )),
         2 | 3 => {
             lines.say(one_of(&["cancel ", "test ", "untest "], draws));
-            lines.say(one_of(&zones_of(alloc, site, panel)?, draws));
+            say_one(lines, zones_of(alloc, site, panel), draws)?;
         }
         4 => {
             lines.say(one_of(&["disable zone ", "enable zone "], draws));
-            lines.say(one_of(&zones_of(alloc, site, panel)?, draws));
+            say_one(lines, zones_of(alloc, site, panel), draws)?;
         }
         5 if has_output(site, panel) => {
             lines.say(one_of(&["disable output ", "enable output "], draws));
-            lines.say(one_of(&outputs_of(alloc, site, panel)?, draws));
+            say_one(lines, outputs_of(alloc, site, panel), draws)?;
         }
         _ => {
             lines.say(one_of(&["disable point ", "enable point "], draws));
-            lines.say(one_of(&points_of(alloc, site, panel)?, draws));
+            say_one(lines, points_of(alloc, site, panel), draws)?;
         }
     }
     lines.say("\n");
+    Ok(())
+}
+
+// One of these names.
+fn say_one(lines: &mut Lines, names: Result<Vec<&str>>, draws: &mut Pcg32) -> Result<()> {
+    lines.say(one_of(&names?, draws));
     Ok(())
 }
 

@@ -7,7 +7,7 @@ ghost use Rattle.site_types.specs.Valid.{IsValid};
 use crate::told::Told;
 use anyhow::{Result, bail};
 use driven_panel::{opened, order_of, run_events, tested_order};
-use face_text::Timeline;
+use face_text::{Step, Timeline};
 use panel_core::Store;
 use plain_history::Moment;
 use plain_panel::timeline;
@@ -46,12 +46,20 @@ pub fn by_system(
     for block in blocks {
         let order = order_in(alloc, panels, block, reversed)?;
         let store = run_events(&mut own, panels, &block.events, &order)?;
-        let failed = matches!(store, Store::Failed);
-        push_tick(&mut played.moments, &block.events, &order, failed)?;
-        played.told.push(Told::by_system(alloc, &own, panels)?)?;
-        played.failed = played.failed.saturating_add(failed as u32);
+        played.keep(block, &order, store, Told::by_system(alloc, &own, panels)?)?;
     }
     Ok(played)
+}
+
+impl Played {
+    // One more tick: its order, how Keep's turn ended and what was told.
+    fn keep(&mut self, block: &Block, order: &Order, store: Store, told: Told) -> Result<()> {
+        let failed = matches!(store, Store::Failed);
+        push_tick(&mut self.moments, &block.events, order, failed)?;
+        self.told.push(told)?;
+        self.failed = self.failed.saturating_add(failed as u32);
+        Ok(())
+    }
 }
 
 // The order of a tick.
@@ -81,15 +89,20 @@ fn all_told(alloc: Global, run: &Timeline) -> Result<Vec<Told>> {
     let mut faces = run.opened.as_slice();
     let mut place: usize = 0;
     for tick in 1..=run.last.0 {
-        let mut answers = String::new(alloc);
-        if let Some(step) = run.steps.as_slice().get(place) {
-            if step.tick.0 == tick {
+        match run.steps.as_slice().get(place) {
+            Some(step) if step.tick.0 == tick => {
                 faces = step.faces.as_slice();
-                answers = answers_of(alloc, &step.answers)?;
+                told.push(told_in(alloc, step)?)?;
                 place = place.saturating_add(1);
             }
+            _ => told.push(Told::by_faces(alloc, faces, String::new(alloc))?)?,
         }
-        told.push(Told::by_faces(alloc, faces, answers)?)?;
     }
     Ok(told)
+}
+
+// What a step of a timeline tells.
+fn told_in(alloc: Global, step: &Step) -> Result<Told> {
+    let answers = answers_of(alloc, &step.answers)?;
+    Ok(Told::by_faces(alloc, step.faces.as_slice(), answers)?)
 }

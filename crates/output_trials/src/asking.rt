@@ -43,7 +43,7 @@ fn learn(site: &Site, known: &mut Known, words: &str) -> Option<()>
         Some(("alarm", names)) => known.facts.zones = zones_of(site, names)?,
         Some(("call", rest)) => known.facts.manual = zones_of(site, rest.strip_prefix("points ")?)?,
         Some(("by", rest)) => known.by_hand.zones = zones_of(site, rest.strip_prefix("hand ")?)?,
-        Some(("fault", panel)) => known.facts.faults = panel_bit(panel.parse().ok()?),
+        Some(("fault", panel)) => known.facts.faults = panel_bit(byte_of(panel)?),
         _ => {
             if words != "nothing" {
                 return None;
@@ -78,12 +78,16 @@ fn place_of(site: &Site, name: &str) -> Option<(u8, u8)>
     requires { IsValid site.now }
 {
     match name.split_once('.') {
-        Some((panel, number)) => Some((panel.parse().ok()?, number.parse().ok()?)),
+        Some((panel, number)) => Some((byte_of(panel)?, byte_of(number)?)),
         None => {
             let zone = zone_of(site, name)?;
             Some((zone.panel, zone.number))
         }
     }
+}
+
+fn byte_of(word: &str) -> Option<u8> {
+    word.parse().ok()
 }
 
 fn say_asked(lines: &mut Lines, site: &Site, plan: &Plan, panel: u8, known: &Known) {

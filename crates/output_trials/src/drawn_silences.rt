@@ -18,39 +18,56 @@ enum Sounders {
 // Whether the sounders are quiet after these, the oldest first: the last that isn't a turn is a silence, and
 // each turn since finds some zone, and none that the last turn before the silence hadn't.
 fn is_quiet(done: &[Sounders]) -> bool {
+    let Some(last) = last_order(done) else {
+        return false;
+    };
+    let taken = zones_before(done, last);
+    for step in done.iter().skip(last) {
+        if !stays_quiet(step, &taken) {
+            return false;
+        }
+    }
+    true
+}
+
+// The place of the last that isn't a turn.
+fn last_order(done: &[Sounders]) -> Option<usize> {
     let mut last = None;
     for (place, step) in done.iter().enumerate() {
         if !matches!(step, Sounders::Drove(_)) {
             last = Some(place);
         }
     }
-    let Some(last) = last else {
-        return false;
-    };
-    let mut taken = [0; 8];
-    for step in done.iter().take(last) {
+    last
+}
+
+// The zones that the last turn before a place found.
+fn zones_before(done: &[Sounders], place: usize) -> [u32; 8] {
+    let mut found = [0; 8];
+    for step in done.iter().take(place) {
         if let Sounders::Drove(zones) = step {
-            taken = *zones;
+            found = *zones;
         }
     }
-    for step in done.iter().skip(last) {
-        match step {
-            Sounders::Silenced => {}
-            Sounders::Resounded => return false,
-            Sounders::Drove(zones) => {
-                let mut some = 0;
-                let mut new = 0;
-                for panel in 0..8 {
-                    some |= zones[panel];
-                    new |= zones[panel] & !taken[panel];
-                }
-                if some == 0 || new != 0 {
-                    return false;
-                }
-            }
-        }
+    found
+}
+
+fn stays_quiet(step: &Sounders, taken: &[u32; 8]) -> bool {
+    match step {
+        Sounders::Silenced => true,
+        Sounders::Resounded => false,
+        Sounders::Drove(zones) => are_some_and_no_new(zones, taken),
     }
-    true
+}
+
+fn are_some_and_no_new(zones: &[u32; 8], taken: &[u32; 8]) -> bool {
+    let mut some = 0;
+    let mut new = 0;
+    for panel in 0..8 {
+        some |= zones[panel];
+        new |= zones[panel] & !taken[panel];
+    }
+    some != 0 && new == 0
 }
 
 fn drawn_zones(draws: &mut Pcg32) -> [u32; 8] {

@@ -6,7 +6,7 @@ ghost use Rattle.site_types.specs.Valid.{IsValid};
 use anyhow::Result;
 use driven_panel::{opened, order_of, run_tick, shown};
 use rand_pcg::Pcg32;
-use site_types::{Answer, PointState, Rule, Site, Zone, has_bit_32};
+use site_types::{Answer, Point, PointState, Rule, Site, Zone, has_bit_32};
 use std::alloc::{AllocError, Global};
 use trial_base::{Judged, PlainRules, Report, answers_at, state_at};
 use trial_cases::below;
@@ -75,25 +75,36 @@ fn all_held(alloc: Global, site: &Site, reports: &[Report]) -> Result<Vec<Held>,
     let mut held = Vec::new(alloc);
     let mut place: u16 = 0;
     for point in site.points.as_slice() {
-        let mut ticks: u64 = 0;
-        for tick in 1..=LAST {
-            ticks = if state_at(reports, place, tick) == PointState::Alarm {
-                ticks.saturating_add(1)
-            } else {
-                0
-            };
-            if ticks >= ROUND {
-                held.push(Held {
-                    point: place,
-                    zone: point.zone,
-                    manual: point.manual,
-                    first: tick.saturating_sub(ROUND - 1),
-                })?;
-            }
-        }
+        push_held(&mut held, place, point, reports)?;
         place = place.saturating_add(1);
     }
     Ok(held)
+}
+
+// A point with each such tick.
+fn push_held(
+    held: &mut Vec<Held>,
+    place: u16,
+    point: &Point,
+    reports: &[Report],
+) -> Result<(), AllocError> {
+    let mut ticks: u64 = 0;
+    for tick in 1..=LAST {
+        ticks = if state_at(reports, place, tick) == PointState::Alarm {
+            ticks.saturating_add(1)
+        } else {
+            0
+        };
+        if ticks >= ROUND {
+            held.push(Held {
+                point: place,
+                zone: point.zone,
+                manual: point.manual,
+                first: tick.saturating_sub(ROUND - 1),
+            })?;
+        }
+    }
+    Ok(())
 }
 
 // What the points answer, tick by tick in the order of the site's points.
@@ -114,26 +125,44 @@ fn settled_by_two(
     within: u64,
     held: &[Held],
 ) -> Result<u64, AllocError> {
-    let mut near: Vec<Held> = Vec::new(alloc);
+    let near = detectors_of(alloc, place, partner, held)?;
+    let mut settled = NEVER;
+    for one in &near {
+        settled = settled.min(settled_beside(one, place, within, &near));
+    }
+    Ok(settled)
+}
+
+// The detectors of a zone and of its partner.
+fn detectors_of(
+    alloc: Global,
+    place: u16,
+    partner: Option<u16>,
+    held: &[Held],
+) -> Result<Vec<Held>, AllocError> {
+    let mut near = Vec::new(alloc);
     for one in held {
         if !one.manual && (one.zone == place || partner == Some(one.zone)) {
             near.push(*one)?;
         }
     }
+    Ok(near)
+}
+
+// The least tick from which on another one is held so after a first one.
+fn settled_beside(one: &Held, place: u16, within: u64, near: &[Held]) -> u64 {
     let mut settled = NEVER;
-    for one in &near {
-        for other in &near {
-            if one.first <= other.first
-                && other.first < settled
-                && other.point != one.point
-                && (one.zone == place || other.zone == place)
-                && (other.first - one.first).saturating_add(ROUND - 1) <= within
-            {
-                settled = other.first;
-            }
+    for other in near {
+        if one.first <= other.first
+            && other.first < settled
+            && other.point != one.point
+            && (one.zone == place || other.zone == place)
+            && (other.first - one.first).saturating_add(ROUND - 1) <= within
+        {
+            settled = other.first;
         }
     }
-    Ok(settled)
+    settled
 }
 
 // The least tick from which on one point alone signals.
@@ -200,13 +229,23 @@ fn all_bounds(alloc: Global, site: &Site, reports: &[Report]) -> Result<Vec<Boun
         done: &[],
     };
     let judged = plain.judge_all(alloc, &answers)?;
+    bounds_of(alloc, site, reports, &held, &judged)
+}
+
+fn bounds_of(
+    alloc: Global,
+    site: &Site,
+    reports: &[Report],
+    held: &[Held],
+    judged: &[Judged],
+) -> Result<Vec<Bounds>, AllocError> {
     let mut bounds = Vec::new(alloc);
     let mut place: u16 = 0;
     for zone in site.zones.as_slice() {
         bounds.push(Bounds {
             number: zone.number,
-            due: due_from(alloc, place, zone, &held, reports)?,
-            caused: caused_from(&judged, zone.number),
+            due: due_from(alloc, place, zone, held, reports)?,
+            caused: caused_from(judged, zone.number),
         })?;
         place = place.saturating_add(1);
     }

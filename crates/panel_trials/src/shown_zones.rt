@@ -39,9 +39,7 @@ pub(crate) fn say_zones_shown(
         let after = face_of(shown(&own, panels, 1));
         if after != before {
             let changes = changes_of(alloc, own.system.site(), &before, &after)?;
-            lines.say(word);
-            lines.count(", tick ", tick);
-            say_end(lines, &changes);
+            say_changes(lines, word, tick, &changes);
             is_same = false;
         }
         before = after;
@@ -51,6 +49,12 @@ pub(crate) fn say_zones_shown(
         say_end(lines, "no change");
     }
     Ok(())
+}
+
+fn say_changes(lines: &mut Lines, word: &str, tick: u64, changes: &str) {
+    lines.say(word);
+    lines.count(", tick ", tick);
+    say_end(lines, changes);
 }
 
 fn say_end(lines: &mut Lines, words: &str) {

@@ -29,11 +29,11 @@ impl Evidence<'_> {
     pub(crate) fn is_second(&self, zone: usize, answer: &Answer, other: &Answer) -> bool
         ensures { result ≡ weighed is_second_by self.now zone answer.now other.now }
     {
-        let floor = floor_before(self.settings.site, zone, answer.stamp, self.settings.done);
         is_of(self.settings.site, zone, other.point)
             && self.is_counted(other)
             && other.point != answer.point
-            && floor.0 < other.stamp.0
+            && floor_before(self.settings.site, zone, answer.stamp, self.settings.done).0
+                < other.stamp.0
             && other.stamp.0 <= answer.stamp.0
     }
 
@@ -72,10 +72,10 @@ impl Evidence<'_> {
     ) -> bool
         ensures { result ≡ weighed is_first_of_run_by self.now verify zone answer.now first.now }
     {
-        let floor = floor_before(self.settings.site, zone, answer.stamp, self.settings.done);
         first.point == answer.point
             && self.is_counted(first)
-            && floor.0 < first.stamp.0
+            && floor_before(self.settings.site, zone, answer.stamp, self.settings.done).0
+                < first.stamp.0
             && has_passed(first.stamp, verify, answer.stamp)
     }
 }

@@ -56,14 +56,18 @@ fn repeated(alloc: Global, text: &str) -> Result<String> {
 fn numbered(alloc: Global, item: &str, count: u64) -> Result<String> {
     let mut lines = Lines::new(alloc);
     for number in 0..count {
-        let mut parts = item.split('%');
-        lines.say(parts.next().unwrap_or(""));
-        for part in parts {
-            lines.number(number);
-            lines.say(part);
-        }
+        say_numbered(&mut lines, item, number);
     }
     lines.done()
+}
+
+fn say_numbered(lines: &mut Lines, item: &str, number: u64) {
+    let mut parts = item.split('%');
+    lines.say(parts.next().unwrap_or(""));
+    for part in parts {
+        lines.number(number);
+        lines.say(part);
+    }
 }
 
 /// The bytes that a text on one line spells: `;` is a line end, and `\x` the byte that the two
@@ -79,8 +83,13 @@ pub fn bytes_of(alloc: Global, text: &str) -> Result<Vec<u8>> {
         let Some((digits, rest)) = part.split_at_checked(2) else {
             bail!("no digits: {text}");
         };
-        bytes.push(u8::from_str_radix(digits, 16)?)?;
-        bytes.extend_from_slice(rest.as_bytes())?;
+        push_spelled(&mut bytes, digits, rest)?;
     }
     Ok(bytes)
+}
+
+// The byte that two digits give, and the text behind them.
+fn push_spelled(bytes: &mut Vec<u8>, digits: &str, rest: &str) -> Result<()> {
+    bytes.push(u8::from_str_radix(digits, 16)?)?;
+    Ok(bytes.extend_from_slice(rest.as_bytes())?)
 }

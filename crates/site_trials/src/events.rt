@@ -35,14 +35,18 @@ pub fn event_in(mut words: Words) -> Result<Option<Event>> {
 
 fn cable_in(mut words: Words) -> Result<Event> {
     let panel = words.byte()?;
-    let line = words.byte()?;
-    let piece = words.byte()?;
+    let (line, piece) = piece_in(&mut words)?;
     Ok(Event::Cable {
         panel,
         line,
         piece,
         state: PieceState::Open,
     })
+}
+
+fn piece_in(words: &mut Words) -> Result<(u8, u8)> {
+    let line = words.byte()?;
+    Ok((line, words.byte()?))
 }
 
 fn given_in(words: Words) -> Result<Event> {
@@ -86,6 +90,10 @@ fn place_operation_in(mut words: Words) -> Result<Operation> {
 fn item_in(mut words: Words) -> Result<Item> {
     let kind = words.next();
     let place = words.place()?;
+    item_of(kind, place)
+}
+
+fn item_of(kind: &str, place: u16) -> Result<Item> {
     match kind {
         "point" => Ok(Item::Point(place)),
         "zone" => Ok(Item::Zone(place)),

@@ -45,14 +45,19 @@ fn change_in(mut words: Words) -> Result<Change> {
 
 fn point_in(panel: u8, mut words: Words) -> Result<Change> {
     let line = words.byte()?;
-    words.next();
-    let address = words.byte()?;
+    let address = address_in(&mut words)?;
     Ok(Change::Point {
         panel,
         line,
         address,
         off: true,
     })
+}
+
+// The number behind the word for it.
+fn address_in(words: &mut Words) -> Result<u8> {
+    words.next();
+    words.byte()
 }
 
 fn zone_in(panel: u8, mut words: Words) -> Result<Change> {

@@ -76,6 +76,9 @@ fn tell_event(alloc: Global, event: &Event) -> Result<String, AllocError> {
 pub fn printed(alloc: Global, site: &Site, line: &Line) -> Result<String> {
     let mut out = ArrayVec::new();
     print_line(site, line, &mut out);
-    let text = str::from_utf8(out.as_slice())?;
-    Ok(String::from_str(alloc, text)?)
+    text_of(alloc, out.as_slice())
+}
+
+fn text_of(alloc: Global, bytes: &[u8]) -> Result<String> {
+    Ok(String::from_str(alloc, str::from_utf8(bytes)?)?)
 }

@@ -1,5 +1,6 @@
 //! A text with a line dropped, doubled or swapped, with a byte changed, and cut anywhere.
 
+ghost use Rattle.std.specs.Prelude.{◌<◌, ◌+◌, length};
 ghost use Rattle.site_types.specs.Valid.{IsValid};
 
 use crate::plain_reader::bad_line;
@@ -21,13 +22,16 @@ pub(crate) fn damage(rt: &HostRuntime, mut words: Words) -> Result<String> {
     if bad_line(alloc, &page, &text)?.is_some() {
         bail!("the plain program refuses the text itself");
     }
-    compare(alloc, &site, &page, &text)?;
+    tell_alike(alloc, &site, &page, &text)
+}
+
+fn tell_alike(alloc: Global, site: &Site, page: &str, text: &str) -> Result<String>
+    requires { IsValid site.now }
+{
+    compare(alloc, site, page, text)?;
     let mut lines = Lines::new(alloc);
-    lines.count(
-        "alike: lines ",
-        turn_lines(alloc, &site, &page, &text)? as u64,
-    );
-    lines.count(", bytes ", turn_bytes(alloc, &site, &page, &text)? as u64);
+    lines.count("alike: lines ", turn_lines(alloc, site, page, text)? as u64);
+    lines.count(", bytes ", turn_bytes(alloc, site, page, text)? as u64);
     lines.say("\n");
     lines.done()
 }
@@ -63,30 +67,52 @@ fn turn_lines(alloc: Global, site: &Site, page: &str, text: &str) -> Result<usiz
         lines.push(line)?;
     }
     for place in 0..lines.len() {
-        let mut fewer = lines.clone()?;
-        fewer.remove(place);
-        compare(alloc, site, page, joined(alloc, &fewer)?.as_str())?;
-        let mut more = lines.clone()?;
-        more.insert(place, lines[place])?;
-        compare(alloc, site, page, joined(alloc, &more)?.as_str())?;
-        let next = place + 1;
-        if next < lines.len() {
-            let mut swapped = lines.clone()?;
-            swapped.swap(place, next);
-            compare(alloc, site, page, joined(alloc, &swapped)?.as_str())?;
+        compare(alloc, site, page, &dropped(alloc, &lines, place)?)?;
+        compare(alloc, site, page, &doubled(alloc, &lines, place)?)?;
+        if place + 1 < lines.len() {
+            compare(alloc, site, page, &swapped(alloc, &lines, place)?)?;
         }
     }
     Ok(lines.len())
+}
+
+fn dropped(alloc: Global, lines: &[&str], place: usize) -> Result<String, AllocError>
+    requires { place < length lines.now }
+{
+    let mut fewer = lines.to_vec(alloc)?;
+    fewer.remove(place);
+    joined(alloc, &fewer)
+}
+
+fn doubled(alloc: Global, lines: &[&str], place: usize) -> Result<String, AllocError>
+    requires { place < length lines.now }
+{
+    let mut more = lines.to_vec(alloc)?;
+    more.insert(place, lines[place])?;
+    joined(alloc, &more)
+}
+
+// The text with a line and the next one the other way round.
+fn swapped(alloc: Global, lines: &[&str], place: usize) -> Result<String, AllocError>
+    requires { place + 1 < length lines.now }
+{
+    let mut other = lines.to_vec(alloc)?;
+    other.swap(place, place + 1);
+    joined(alloc, &other)
 }
 
 // Lines with their ends.
 fn joined(alloc: Global, lines: &[&str]) -> Result<String, AllocError> {
     let mut text = String::new(alloc);
     for line in lines {
-        text.push_str(line)?;
-        text.push_str("\n")?;
+        push_line(&mut text, line)?;
     }
     Ok(text)
+}
+
+fn push_line(text: &mut String, line: &str) -> Result<(), AllocError> {
+    text.push_str(line)?;
+    text.push_str("\n")
 }
 
 // Each byte changed into another, and the text cut before each byte. How many bytes there were.
@@ -98,13 +124,21 @@ fn turn_bytes(alloc: Global, site: &Site, page: &str, text: &str) -> Result<usiz
             bail!("a text that isn't of ASCII");
         };
         compare(alloc, site, page, front)?;
-        let Some((_, behind)) = rest.split_at_checked(1) else {
-            bail!("a text that isn't of ASCII");
-        };
-        for other in ["x", "1", " ", "\n"] {
-            let changed = format!(in alloc; "{front}{other}{behind}")?;
-            compare(alloc, site, page, changed.as_str())?;
-        }
+        turn_byte(alloc, site, page, front, rest)?;
     }
     Ok(text.len())
+}
+
+// The first byte behind a front changed.
+fn turn_byte(alloc: Global, site: &Site, page: &str, front: &str, rest: &str) -> Result<()>
+    requires { IsValid site.now }
+{
+    let Some((_, behind)) = rest.split_at_checked(1) else {
+        bail!("a text that isn't of ASCII");
+    };
+    for other in ["x", "1", " ", "\n"] {
+        let changed = format!(in alloc; "{front}{other}{behind}")?;
+        compare(alloc, site, page, changed.as_str())?;
+    }
+    Ok(())
 }

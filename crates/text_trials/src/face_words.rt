@@ -1,5 +1,7 @@
 //! Faces in words: `nothing`, `everything`, or parts with commas between, which name things by their numbers.
 
+ghost use Rattle.std.specs.Prelude.{◌<◌, IfSome};
+
 use face_text::Face;
 use site_types::{Buzzer, FaultSet, PointSet, with_bit_8, with_bit_32};
 
@@ -99,22 +101,26 @@ fn buzzer_of(value: &str) -> Option<Buzzer> {
 
 // A number of 1 to 8.
 fn set_few(mask: &mut u8, value: &str) -> Option<()> {
-    let number: u8 = value.parse().ok()?;
-    if number < 1 || number > 8 {
-        return None;
-    }
-    *mask = with_bit_8(*mask, number - 1, true);
+    *mask = with_bit_8(*mask, place_of(value, 8)?, true);
     Some(())
 }
 
 // A number of 1 to 32.
 fn set_number(mask: &mut u32, value: &str) -> Option<()> {
-    let number: u8 = value.parse().ok()?;
-    if number < 1 || number > 32 {
-        return None;
-    }
-    *mask = with_bit_32(*mask, number - 1, true);
+    *mask = with_bit_32(*mask, place_of(value, 32)?, true);
     Some(())
+}
+
+// The place, from 0, of a number of 1 to the last one.
+fn place_of(value: &str, last: u8) -> Option<u8>
+    ensures { IfSome result (λ place. place < last) }
+{
+    let number: u8 = value.parse().ok()?;
+    if number >= 1 && number <= last {
+        Some(number - 1)
+    } else {
+        None
+    }
 }
 
 // A panel and the number of a zone of it, as 2.3.

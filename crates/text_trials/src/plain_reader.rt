@@ -24,14 +24,9 @@ struct PlainReader<'a> {
 
 impl<'a> PlainReader<'a> {
     fn new(alloc: Global, page: &'a str) -> Result<PlainReader<'a>, AllocError> {
-        let mut slots = Vec::new(alloc);
-        for line in page.lines().skip(1) {
-            if let Some((words, state)) = line.rsplit_once(' ') {
-                slots.push(Slot { words, state })?;
-            }
-        }
+        let (_, panels) = page.split_once('\n').unwrap_or((page, ""));
         Ok(PlainReader {
-            slots,
+            slots: slots_of(alloc, panels)?,
             tick: 0,
             part: 0,
             place: 0,
@@ -150,6 +145,16 @@ impl<'a> PlainReader<'a> {
         }
         self.slots.len()
     }
+}
+
+fn slots_of(alloc: Global, panels: &str) -> Result<Vec<Slot>, AllocError> {
+    let mut slots = Vec::new(alloc);
+    for line in panels.lines() {
+        if let Some((words, state)) = line.rsplit_once(' ') {
+            slots.push(Slot { words, state })?;
+        }
+    }
+    Ok(slots)
 }
 
 /// The first bad line of a text, if it has one.

@@ -21,9 +21,10 @@ const LISTS: [(&str, FaceList); 6] = [
 /// The words name a site and a panel.
 pub(crate) fn tell_change(rt: &HostRuntime, mut words: Words, faces: &str) -> Result<String> {
     let site = site_at(rt, words.next())?;
-    let mut out = sink(rt.alloc(), 0)?;
-    write_faces(&site, words.byte()?, faces, &mut out)?;
-    tell_written(rt.alloc(), out)
+    tell_written(
+        rt.alloc(),
+        whole_sink(rt.alloc(), &site, words.byte()?, faces)?,
+    )
 }
 
 /// The words name a write, that which fails, and then what the words of a change do. What was written by then
@@ -32,19 +33,28 @@ pub(crate) fn tell_failing(rt: &HostRuntime, mut words: Words, faces: &str) -> R
     let write = words.number()?;
     words.next();
     let site = site_at(rt, words.next())?;
-    let panel = words.byte()?;
-    let mut whole = sink(rt.alloc(), 0)?;
-    write_faces(&site, panel, faces, &mut whole)?;
-    let mut out = sink(rt.alloc(), write)?;
-    let is_front = write_faces(&site, panel, faces, &mut out).is_err()
+    tell_front(rt.alloc(), &site, words.byte()?, faces, write)
+}
+
+fn tell_front(alloc: Global, site: &Site, panel: u8, faces: &str, write: u64) -> Result<String> {
+    let whole = whole_sink(alloc, site, panel, faces)?;
+    let mut out = sink(alloc, write)?;
+    let is_front = write_faces(site, panel, faces, &mut out).is_err()
         && whole.bytes.as_slice().starts_with(out.bytes.as_slice());
-    let mut lines = Lines::new(rt.alloc());
+    let mut lines = Lines::new(alloc);
     lines.say("a front: ");
     lines.say(word_of(is_front));
     lines.count(", bytes ", out.bytes.len() as u64);
     lines.count(", faults ", out.faults as u64);
     lines.say("\n");
     lines.done()
+}
+
+// A sink with the whole change in it.
+fn whole_sink(alloc: Global, site: &Site, panel: u8, faces: &str) -> Result<MemorySink> {
+    let mut out = sink(alloc, 0)?;
+    write_faces(site, panel, faces, &mut out)?;
+    Ok(out)
 }
 
 fn word_of(holds: bool) -> &'static str {
@@ -55,17 +65,29 @@ fn word_of(holds: bool) -> &'static str {
 pub(crate) fn tell_lists(rt: &HostRuntime, mut words: Words, face: &str) -> Result<String> {
     let site = site_at(rt, words.next())?;
     let face = face_in(words.byte()?, face)?;
-    let mut lines = Lines::new(rt.alloc());
-    for (name, list) in LISTS {
-        let mut out = sink(rt.alloc(), 0)?;
-        write_list(&site, &face, list, &mut out)?;
-        let text = String::from_utf8(out.bytes)?;
-        lines.say(name);
-        lines.say(" ");
-        lines.say(&text);
-        lines.say("\n");
+    lists_of(rt.alloc(), &site, &face)
+}
+
+fn lists_of(alloc: Global, site: &Site, face: &Face) -> Result<String> {
+    let mut lines = Lines::new(alloc);
+    for (name, list) in &LISTS {
+        let text = list_text(alloc, site, face, *list)?;
+        say_list(&mut lines, name, &text);
     }
     lines.done()
+}
+
+fn say_list(lines: &mut Lines, name: &str, text: &str) {
+    lines.say(name);
+    lines.say(" ");
+    lines.say(text);
+    lines.say("\n");
+}
+
+fn list_text(alloc: Global, site: &Site, face: &Face, list: FaceList) -> Result<String> {
+    let mut out = sink(alloc, 0)?;
+    write_list(site, face, list, &mut out)?;
+    Ok(String::from_utf8(out.bytes)?)
 }
 
 /// The words name a panel.
@@ -107,7 +129,8 @@ fn face_in(panel: u8, text: &str) -> Result<Face> {
 
 // A sink of which the write with this number fails, from 1.
 fn sink(alloc: Global, failing: u64) -> Result<MemorySink> {
-    match MemorySink::new(alloc, 4096, vec![in alloc; failing]?) {
+    let fails = vec![in alloc; failing]?;
+    match MemorySink::new(alloc, 4096, fails) {
         Ok(sink) => Ok(sink),
         Err(_) => bail!("no memory"),
     }

@@ -1,13 +1,14 @@
-//! What the programs of trials share: the list of cases, sites from their files, histories on a line, what
+//! What trials share: the list of cases, sites from their files, histories on a line, what
 //! befalls a site, names for masks, words that are read, texts that are changed, and lines that are told.
 //!
-//! Only the programs of trials stand on this crate. It promises what they need to call the parts of a panel:
+//! Only trials stand on this crate. It promises what they need to call the parts of a panel:
 //! [`site_at`] gives a valid site, and [`event_of`] an event of which the site has all that it names.
 //!
-//! A program reads a list of cases from its standard input and prints each with what is answered. Any line that
-//! is no heading is a case, `KIND SUBJECT: REST`; the program has a table of its kinds. What it must print stands
-//! in its file stdout, worked out by hand, or, where histories are drawn, as plain slow programs of the rules make
-//! it. What a clause of another crate says for all inputs isn't tried again, but for the examples that show that
+//! A program of trials reads the names of lists from its standard input. A list is the file `cases` in the folder
+//! of its name, beside the files that its cases name, and is printed with what is answered to each. Any line that is
+//! no heading is a case, `KIND SUBJECT: REST`; each trial has a table of its kinds. What must be printed stands in
+//! the program's file stdout, worked out by hand, or, where histories are drawn, as plain slow programs of the rules
+//! make it. What a clause of another crate says for all inputs isn't tried again, but for the examples that show that
 //! the clause says what was meant.
 //!
 //! A history is a line of steps with `, ` between them. A step `tick 13` goes on to that tick, and the ticks
@@ -28,7 +29,7 @@ mod step;
 mod texts;
 mod words;
 
-pub use answering::{answer_cases, is_heading};
+pub use answering::{answer_cases, answer_lists, is_heading};
 pub use case::Case;
 pub use draws::below;
 pub use events::event_of;

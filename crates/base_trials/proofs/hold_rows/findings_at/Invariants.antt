@@ -1,0 +1,5 @@
+use Rattle.std.proofs.Common.{◌≡◌}
+use Rattle.base_trials.proofs.hold_rows.findings_at.Given as goal
+
+abbrev pub invariant-loop-step : goal.invariant-loop-step
+invariant-loop-step l = (l.lane.quota ≡ 32) × (l.lane.capacity ≡ 64)
