@@ -1,5 +1,7 @@
 pub mod Expanded
 pub mod Moving
 pub mod MaskBits
+pub mod PlaceSets
 pub mod WholeRuns
-mod FindingRuns
+pub mod AllRuns
+pub mod FindingRuns

@@ -36,9 +36,10 @@ impl FindingGroup {
         has_place(self.missing, place)
     }
 
-    // Whether a finding can stand at a place: it is of the point there, and tells of zones nothing or what others do.
-    pub(crate) fn can_have(&self, place: u8, finding: &Finding) -> bool
-        ensures { result ≡ true → CanHave place finding.now self.now }
+    /// Whether a finding can stand at a place: it is of the point there, and tells of zones nothing or what others do.
+    pub fn can_have(&self, place: u8, finding: &Finding) -> bool
+        ensures can { result ≡ true → CanHave place finding.now self.now }
+        ensures must { CanHave place finding.now self.now → result ≡ true }
     {
         place < 8
             && finding.stamp == self.stamp
@@ -48,7 +49,8 @@ impl FindingGroup {
 
     // Whether a finding tells of zones what those tell that tell of any.
     fn tells_same(&self, finding: &Finding) -> bool
-        ensures { result ≡ true → TellsLike finding.now self.now }
+        ensures same { result ≡ true → TellsLike finding.now self.now }
+        ensures each { TellsLike finding.now self.now → result ≡ true }
     {
         finding.counted == self.counted
             && finding.confirmed == self.confirmed
@@ -56,8 +58,8 @@ impl FindingGroup {
             && finding.released == self.released
     }
 
-    // Sets what is told of the point at a place.
-    pub(crate) fn set(&mut self, place: u8, finding: &Finding)
+    /// Sets what is told of the point at a place.
+    pub fn set(&mut self, place: u8, finding: &Finding)
         requires { CanHave place finding.now self.old }
         ensures { (k : ℕ) → finding_at self.new k
             ≡ (if k == place then finding.now else finding_at self.old k) }

@@ -1,4 +1,4 @@
-ghost use Rattle.std.specs.Prelude.{◌≡◌, ◌+◌, ◌≤◌, [], ◌∷◌, All, IfOk, length, take, drop};
+ghost use Rattle.std.specs.Prelude.{◌≡◌, ◌+◌, ◌++◌, ◌≤◌, [], ◌∷◌, All, IfOk, length, nat_le, take, drop};
 ghost use Rattle.tick_units.specs.Lane.{HasRoom, after_turn, empty_lane, turn_count, with_put};
 ghost use Rattle.answer_lanes.specs.Runs.{HoldsItems, HasShortCount, all_items, items_of};
 
@@ -90,6 +90,31 @@ impl<S: Several> Lane<S> {
         move_runs(&mut self.runs, into, count as u8);
     }
 
+    /// Whether a turn moves all that lies in the lane.
+    pub fn fits_turn(&self) -> bool
+        ensures { result ≡ nat_le (length self.now.items) self.now.quota }
+    {
+        self.len() <= self.quota
+    }
+
+    /// The runs that lie in the lane, the oldest first, in two parts: the room that they lie in may wrap round.
+    pub fn runs(&self) -> (&[Run<S>], &[Run<S>])
+        ensures items { all_items S.item_at result.0.now ++ all_items S.item_at result.1.now
+            ≡ self.now.items }
+        ensures held { All HoldsItems result.0.now × All HoldsItems result.1.now }
+    {
+        self.runs.as_slices()
+    }
+
+    /// Takes all that lies in the lane out of it, in a turn that looked at its runs.
+    pub fn take_all(&mut self)
+        requires { length self.old.items ≤ self.old.quota }
+        ensures { self.new ≡ after_turn self.old }
+    {
+        self.taken = self.put;
+        self.runs.truncate_front(0);
+    }
+
     /// How many items lie in the lane.
     pub fn len(&self) -> usize
         ensures length { result ≡ length self.now.items }
@@ -113,7 +138,7 @@ impl<S: Several> Lane<S> {
     }
 }
 
-ghost use Rattle.std.specs.Prelude.{◌++◌, ◌<◌};
+ghost use Rattle.std.specs.Prelude.{◌<◌};
 ghost use Rattle.answer_lanes.specs.Runs.{rest_of};
 ghost use Rattle.answer_lanes.specs.Moves.{AreWhole, MayMove, MovesItems};
 
@@ -132,6 +157,9 @@ fn move_runs<S: Several>(
     // Where the runs wrap round, the second call moves those behind the seam.
     let before_the_seam = move_whole(runs, into, count);
     let still = count - before_the_seam.items;
+    if still == 0 {
+        return;
+    }
     let behind_the_seam = move_whole(runs, into, still);
     let mut left = still - behind_the_seam.items;
     while left > 0 {

@@ -4,7 +4,10 @@
 //! of a [`FindingGroup`]. So a turn looks at what is new, and not at each point. Contracts see a [`Lane`] as the list
 //! of its items, the oldest first, however they stand in runs. [`Run::one`] is an item by itself.
 //!
-//! [`Lane::new`] alone takes memory.
+//! A [`PlaceSet`] tells of eight places at once whether each is one of some: of the points that rest, that are missing
+//! or that are in alarm.
+//!
+//! Only [`Lane::new`] and [`PlaceSet::first`] take memory.
 #![tactic(auto)]
 
 mod answer_group;
@@ -13,6 +16,7 @@ mod finding_group;
 mod finding_run;
 mod lane;
 mod mask_bits;
+mod place_set;
 mod run;
 mod several;
 mod whole;
@@ -21,5 +25,6 @@ pub use answer_group::AnswerGroup;
 pub use expanding::take_items;
 pub use finding_group::FindingGroup;
 pub use lane::Lane;
+pub use place_set::PlaceSet;
 pub use run::Run;
 pub use several::Several;

@@ -2,7 +2,7 @@
 use Rattle.std.proofs.Common.{◌≡◌, ◌≤◌, ◌<◌, ◌==◌, ◌+◌, ◌-◌, ◌&&◌, ◌||◌, ◌⊎◌, inl, inr, ℕ, zero, suc, Bool, true}
 use Rattle.std.proofs.Common.{false, List, [], ◌∷◌, Option, Some, nat_eq, length, take, get_or, refl, sym, ap, subst}
 use Rattle.std.proofs.Common.{◌∙◌, arith, if◌then◌else◌}
-use Rattle.std.specs.Prelude.{◌/◌, ◌%◌, slice_get, slice_index_or}
+use Rattle.std.specs.Prelude.{slice_get}
 use Rattle.std.specs.List.{list_any, IsDistinct}
 use Rattle.std.proofs.lemmas.Bool.{cases_lt}
 use Rattle.std.specs.Cmp.Lexicographic.{pointwise}
@@ -12,17 +12,15 @@ use Rattle.std.proofs.lemmas.List.{take_all}
 use Rattle.std.proofs.lemmas.Map.Keys.{apart_from_distinct}
 use Rattle.std.proofs.lemmas.Option.{get_or_from_slice_get, slice_get_within}
 use Rattle.site_types.specs.Bits.{has_bit}
-use Rattle.site_types.specs.Valid.{IsValid}
 use Rattle.site_types.specs.declared.site.Site.{Site}
 use Rattle.site_types.specs.declared.zone.Zone.{Zone}
 use Rattle.site_types.specs.declared.marker.Marker.{Marker}
 use Rattle.site_types.specs.declared.term.Term.{Term}
 use Rattle.site_types.specs.declared.term.Term.TheVariants.{Zone as ZoneTerm, Manual as ManualTerm, Fault as FaultTerm, Marker as MarkerTerm}
 use Rattle.marker_table.specs.declared.facts.Facts.{Facts}
-use Rattle.marker_table.specs.declared.values.Values.{Values}
-use Rattle.marker_table.specs.Equations.{equation, values_of, zone_bit}
-use Rattle.cause_effect.specs.Changes.{differ, is_changed, has_changed, DependsOnChanged, directly, through, RoseByNumberOf}
-use Rattle.cause_effect.specs.Cycles.{has_term, is_among, terms_of, HasNoCycle}
+use Rattle.marker_table.specs.Equations.{equation, zone_bit}
+use Rattle.cause_effect.specs.Changes.{differ, is_changed, DependsOnChanged, directly, through, RoseByNumberOf}
+use Rattle.cause_effect.specs.Cycles.{is_among, terms_of, HasNoCycle}
 use Rattle.cause_effect.specs.Orders.{IsOrder}
 use Rattle.cause_effect.specs.Solutions.{IsSolution}
 use Rattle.cause_effect.proofs.Depths.{none_equal, same_solution, the_values, the_values_solve}
@@ -46,7 +44,7 @@ front_next order k x m at =
     (or_false (is_among m (take k order)) (m == get_or order k 0) ∙ ap (λ y. is_among m (take k order) || (m == y))
     (get_or_from_slice_get order k x 0 at))
 
-or_cases : (a b : Bool) → (a || b) ≡ true → (a ≡ true) ⊎ (b ≡ true)
+pub or_cases : (a b : Bool) → (a || b) ≡ true → (a ≡ true) ⊎ (b ≡ true)
 or_cases true b h = inl refl
 or_cases false b h = inr h
 
@@ -75,60 +73,6 @@ fresh_next order k x once at = not_true (is_among x (take k order)) (λ h.
   where
     clash : (x a b : ℕ) → a ≡ x → b ≡ x → (a == b) ≡ false → ⊥
     clash x a b p q h = let e : (x == x) ≡ true = equal_number x in cc (p, q, h, e)
-
--- ---- marks
-
--- A marker is marked where a fact that changed is among its terms, or one of the first k markers that depends
--- on such a fact; and only where it depends on one itself.
-pub record AreMarked (site : Site) (before after : Facts) (order : List ℕ) (k : ℕ) (marks : Values) : Type 0 where
-  pub by_fact : (m : ℕ) → m < 256 → has_changed site before after m ≡ true → values_of marks m ≡ true
-  pub by_marker : (m other : ℕ) → m < 256 → has_term site m other ≡ true → is_among other (take k order) ≡ true
-      → DependsOnChanged site before after other → values_of marks m ≡ true
-  pub only : (m : ℕ) → m < 256 → values_of marks m ≡ true → DependsOnChanged site before after m
-
-pub marked_first : (site : Site) (before after : Facts) (order : List ℕ) (marks : Values)
-    → ((m : ℕ) → m < 256 → values_of marks m ≡ has_changed site before after m) →
-    AreMarked site before after order 0 marks
-marked_first site before after order marks same = record {
-  by_fact = λ m fits h. same m fits ∙ h;
-  by_marker = λ m other fits term among d. cc;
-  only = λ m fits h. directly m (sym (same m fits) ∙ h);
-}
-
--- the next marker is marked where it depends on a change
-pub marked_here : (site : Site) (before after : Facts) (order : List ℕ) (k x : ℕ) (marks : Values) → IsOrder site order
-    → slice_get order k ≡ Some x → x < 256 →
-    AreMarked site before after order k marks → DependsOnChanged site before after x → values_of marks x ≡ true
-marked_here site before after order k x marks is at fits w (directly m h) = w.by_fact m fits h
-marked_here site before after order k x marks is at fits w (through m next term d) = w.by_marker m next fits term (is.rising k m next at term) d
-
--- the users of a marker that depends on a change are marked too
-pub marked_on : (site : Site) (before after : Facts) (order : List ℕ) (k x : ℕ) (marks more : Values) → slice_get order k ≡ Some x →
-    AreMarked site before after order k marks → DependsOnChanged site before after x
-    → ((m : ℕ) → m < 256 → values_of more m ≡ (values_of marks m || has_term site m x)) →
-    AreMarked site before after order (k + 1) more
-marked_on site before after order k x marks more at w depends same = record {
-  by_fact = λ m fits h. same m fits ∙ or_left (values_of marks m) (has_term site m x) (w.by_fact m fits h);
-  by_marker = λ m other fits term among d. same m fits ∙ elim (next_cases order k x other at among) [
-    | inl earlier ↦ or_left (values_of marks m) (has_term site m x) (w.by_marker m other fits term earlier d)
-    | inr here ↦ or_right (values_of marks m) (has_term site m x) (subst (λ n. has_term site m n ≡ true) here term)
-  ];
-  only = λ m fits h. elim (or_cases (values_of marks m) (has_term site m x) (sym (same m fits) ∙ h)) [
-    | inl marked ↦ w.only m fits marked
-    | inr term ↦ through m x term depends
-  ];
-}
-
-pub marked_still : (site : Site) (before after : Facts) (order : List ℕ) (k x : ℕ) (marks : Values) → slice_get order k ≡ Some x →
-    AreMarked site before after order k marks → (DependsOnChanged site before after x → ⊥) → AreMarked site before after order (k + 1) marks
-marked_still site before after order k x marks at w free = record {
-  by_fact = w.by_fact;
-  by_marker = λ m other fits term among d. elim (next_cases order k x other at among) [
-    | inl earlier ↦ w.by_marker m other fits term earlier d
-    | inr here ↦ absurd (free (subst (DependsOnChanged site before after) here d))
-  ];
-  only = w.only;
-}
 
 -- ---- counting
 
@@ -223,6 +167,10 @@ evaluated_all site before after order k start steps is done w = (
 -- the first k markers of the order have their values after the change, the others those before it
 pub record AreCarried (site : Site) (before after : Facts) (order : List ℕ) (k : ℕ) (v : ℕ → Bool) : Type 0 where
   pub each : (m : ℕ) → v m ≡ (if is_among m (take k order) then the_values site after m else the_values site before m)
+
+pub carried_same : (site : Site) (before after : Facts) (order : List ℕ) (k : ℕ) (v w : ℕ → Bool) → ((m : ℕ) → w m ≡ v m)
+    → AreCarried site before after order k v → AreCarried site before after order k w
+carried_same site before after order k v w same known = record { each = λ m. same m ∙ known.each m }
 
 pub carried_first : (site : Site) (before after : Facts) (order : List ℕ) (v : ℕ → Bool) → IsOrder site order
     → IsSolution site before v →
@@ -373,25 +321,6 @@ pub rose_by_none : (site : Site) (before after : Facts) (steps : ℕ) → AreEqu
     → RoseByNumberOf (DependsOnChanged site before after) steps steps
 rose_by_none site before after steps same = rose_where_free site before after steps (none_depends site before after same)
 
--- where no marker has a fact that changed as a term none depends on one
-pub unmarked_free : (site : Site) (before after : Facts) (marks : Values) → IsValid site
-    → ((m : ℕ) → m < 256 → values_of marks m ≡ has_changed site before after m) → ((m : ℕ) → values_of marks m ≡ false)
-    → (m : ℕ) → DependsOnChanged site before after m → ⊥
-unmarked_free site before after marks valid marked none m (directly n h) =
-    let within : n < length site.markers = depends_within site before after n (directly n h) in
-    let few = valid.forms.few_markers in
-    let same = marked n (omega (arith, within, few)) in
-    let off = none n in
-    cc (h, same, off)
-unmarked_free site before after marks valid marked none m (through n next term d) = unmarked_free site before after marks valid marked none next d
-
--- and the solution stays
-pub still_solves : (site : Site) (before after : Facts) (order : List ℕ) (v : ℕ → Bool) → IsOrder site order
-    → ((m : ℕ) → DependsOnChanged site before after m → ⊥) → IsSolution site before v → IsSolution site after v
-still_solves site before after order v is free solves =
-    is_solution site after v (order_is_free site order is)
-    (λ m. (carried_first site before after order v is solves).each m ∙ value_kept site before after m (free m))
-
 -- what `==` of two facts says
 pub equal_facts : (before after : Facts)
     → true ≡ (pointwise nat_eq before.zones after.zones && (pointwise nat_eq before.manual after.manual && nat_eq before.faults after.faults))
@@ -410,8 +339,3 @@ equal_facts before after h = record {
 
     faults : Bool
     faults = nat_eq before.faults after.faults
-
--- what `==` of two sets of markers says
-pub equal_values : (one other : Values) → true ≡ pointwise nat_eq one.words other.words → (m : ℕ) → values_of one m ≡ values_of other m
-equal_values one other h m =
-    ap (λ words. has_bit (slice_index_or words (m / 32) 0) (m % 32)) ((slice_eq-Decides Decides-eqb one.words other.words _ refl).0 (sym h))

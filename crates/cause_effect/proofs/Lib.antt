@@ -1,4 +1,5 @@
 pub mod Asking
+pub mod Below
 pub mod Changing
 pub mod Depths
 pub mod Equations
@@ -6,6 +7,7 @@ pub mod Kept
 pub mod Left
 pub mod Marking
 pub mod Orders
+pub mod Passing
 pub mod Placing
 pub mod Solving
 pub mod Truths

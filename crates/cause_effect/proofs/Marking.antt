@@ -1,4 +1,4 @@
--- The markers that are marked at first are those that have a fact as a term that changed.
+-- The places in the order that are marked are those of the markers that depend on a fact that changed.
 use Rattle.std.proofs.Common.{◌≡◌, ◌≢◌, ◌≤◌, ◌<◌, ◌%◌, ◌^◌, mod-lt, ◌==◌, ◌+◌, ◌*◌, ◌-◌, ◌&&◌, ◌||◌, ◌⊎◌, inl, inr}
 use Rattle.std.proofs.Common.{ℕ, zero, suc, Bool, true, false, List, Option, Some, None, refl, sym, ap, subst, ◌∙◌, arith}
 use Rattle.std.specs.Prelude.{slice_get, slice_index_or}
@@ -24,9 +24,12 @@ use Rattle.marker_table.specs.declared.values.Values.{Values}
 use Rattle.marker_table.specs.Equations.{zone_bit}
 use Rattle.marker_table.specs.Table.{zone_index, input_of}
 use Rattle.marker_table.proofs.Rows.{item_at}
-use Rattle.cause_effect.specs.Changes.{differ, is_changed, has_changed}
+use Rattle.cause_effect.specs.Changes.{differ, is_changed, directly}
 use Rattle.cause_effect.specs.Cycles.{terms_of}
-use Rattle.cause_effect.specs.Users.{place_of, looks_at, is_user, AreUsersOf, uses_bit, uses_word}
+use Rattle.cause_effect.specs.Orders.{IsOrder}
+use Rattle.cause_effect.specs.Users.{place_of, looks_at, is_user, uses, uses_bit, uses_word, AreMarksOfChange, AreUsersFrom, AreUsersOf, ComesTo}
+use Rattle.cause_effect.proofs.Below.{changed_user, comes_to_change, in_order}
+use Rattle.cause_effect.proofs.Changing.{depends_within}
 use Rattle.cause_effect.proofs.Truths.{and_first, and_second, any_at, equal_number, number_is, one_passes, or_left, or_right, same_bool}
 use Rattle.cause_effect.proofs.Using.{or_more}
 
@@ -152,13 +155,12 @@ fault_changed site valid before after bit (MarkerTerm other) is e h = let few = 
 
 -- ---- from the marks to the terms
 
--- a marker that is a user at a place has a term that looks at it; what holds of each such term holds of one
--- of its terms
-user_term : (site : Site) → IsValid site → (sets : List Values) (place m : ℕ) (test : Term → Bool) → AreUsersOf site sets
-    → is_user sets place m ≡ true →
+-- a marker that has what is at a place as a term has a term that looks at it; what holds of each such term holds of
+-- one of its terms
+user_term : (site : Site) → IsValid site → (place m : ℕ) (test : Term → Bool) → uses site m place ≡ true →
     ((term : Term) → IsTerm site term → place ≡ place_of (input_of site term) → test term ≡ true)
     → list_any test (terms_of (slice_get site.markers m)) ≡ true
-user_term site valid sets place m test users among every = of_marker (slice_get site.markers m) refl (sym (users place m) ∙ among)
+user_term site valid place m test looks every = of_marker (slice_get site.markers m) refl looks
   where
     of_marker : (marker : Option Marker) → slice_get site.markers m ≡ marker → list_any (looks_at site place) (terms_of marker) ≡ true
         → list_any test (terms_of marker) ≡ true
@@ -168,20 +170,24 @@ user_term site valid sets place m test users among every = of_marker (slice_get 
         any_at test marker.terms w.place w.item w.at
         (every w.item (term_of_marker site valid m marker w.place w.item at w.at) (number_is place (place_of (input_of site w.item)) w.passes))
 
+-- a place of the order is among the users of all that a marker has as a term
+abbrev pub HasPlaceOf : Site → List Values → ℕ → ℕ → Type 0
+HasPlaceOf site sets m k = (place : ℕ) → uses site m place ≡ true → is_user sets place k ≡ true
+
 -- ---- from the terms to the marks
 
 -- all marks that are set at first
 abbrev pub uses_facts : List Values → Facts → Facts → ℕ → Bool
 uses_facts sets before after m = any_below 8 (uses_panel sets before after m) || uses_word sets 768 before.faults after.faults m
 
-user_bit : (site : Site) (sets : List Values) (first before after m bit i : ℕ) (term : Term) → AreUsersOf site sets → bit < 32
+user_bit : (site : Site) (sets : List Values) (first before after m k bit i : ℕ) (term : Term) → HasPlaceOf site sets m k → bit < 32
     → slice_get (terms_of (slice_get site.markers m)) i ≡ Some term →
-    first + bit ≡ place_of (input_of site term) → differ (has_bit before bit) (has_bit after bit) ≡ true → uses_word sets first before after m ≡ true
-user_bit site sets first before after m bit i term users less at place h =
-    below_some 32 (uses_bit sets first before after m) bit less
-    (both (differ (has_bit before bit) (has_bit after bit)) (is_user sets (first + bit) m) h
-    (users (first + bit) m ∙ any_at (looks_at site (first + bit)) (terms_of (slice_get site.markers m)) i term at
-    (subst (λ n. ((first + bit) == n) ≡ true) place (equal_number (first + bit)))))
+    first + bit ≡ place_of (input_of site term) → differ (has_bit before bit) (has_bit after bit) ≡ true → uses_word sets first before after k ≡ true
+user_bit site sets first before after m k bit i term users less at place h =
+    below_some 32 (uses_bit sets first before after k) bit less
+    (both (differ (has_bit before bit) (has_bit after bit)) (is_user sets (first + bit) k) h
+    (users (first + bit) (any_at (looks_at site (first + bit)) (terms_of (slice_get site.markers m)) i term at
+    (subst (λ n. ((first + bit) == n) ≡ true) place (equal_number (first + bit))))))
 
 panel_marks : (sets : List Values) (before after : Facts) (m panel : ℕ) → panel < 8 → uses_panel sets before after m panel ≡ true
     → uses_facts sets before after m ≡ true
@@ -195,91 +201,122 @@ zone_differs : (before after : List ℕ) (found : Option Zone) (z : Zone) → fo
     differ (has_bit (slice_index_or before (z.panel - 1) 0) (z.number - 1)) (has_bit (slice_index_or after (z.panel - 1) 0) (z.number - 1)) ≡ true
 zone_differs before after found z at h = subst (λ (o : Option Zone). differ (zone_bit before o) (zone_bit after o) ≡ true) at h
 
-changed_marks : (site : Site) → IsValid site → (sets : List Values) (before after : Facts) (m i : ℕ) (term : Term) → AreUsersOf site sets
+changed_marks : (site : Site) → IsValid site → (sets : List Values) (before after : Facts) (m k i : ℕ) (term : Term) → HasPlaceOf site sets m k
     → IsTerm site term →
-    slice_get (terms_of (slice_get site.markers m)) i ≡ Some term → is_changed site before after term ≡ true → uses_facts sets before after m ≡ true
-changed_marks site valid sets before after m i (ZoneTerm place) users is at h =
+    slice_get (terms_of (slice_get site.markers m)) i ≡ Some term → is_changed site before after term ≡ true → uses_facts sets before after k ≡ true
+changed_marks site valid sets before after m k i (ZoneTerm place) users is at h =
     let zone = item_at site.zones place is in
     let n = zone_numbers site valid place zone.0 zone.1 in
     let p = zone.0.panel - 1 in
-    panel_marks sets before after m p (omega (arith, n))
-    (or_left (uses_word sets (32 * p) (slice_index_or before.zones p 0) (slice_index_or after.zones p 0) m) _
-    (user_bit site sets (32 * p) (slice_index_or before.zones p 0) (slice_index_or after.zones p 0) m (zone.0.number - 1) i (ZoneTerm place) users
+    panel_marks sets before after k p (omega (arith, n))
+    (or_left (uses_word sets (32 * p) (slice_index_or before.zones p 0) (slice_index_or after.zones p 0) k) _
+    (user_bit site sets (32 * p) (slice_index_or before.zones p 0) (slice_index_or after.zones p 0) m k (zone.0.number - 1) i (ZoneTerm place) users
     (omega (arith, n)) at
     (sym (ap zone_index zone.1)) (zone_differs before.zones after.zones (slice_get site.zones place) zone.0 zone.1 h)))
-changed_marks site valid sets before after m i (ManualTerm place) users is at h =
+changed_marks site valid sets before after m k i (ManualTerm place) users is at h =
     let zone = item_at site.zones place is in
     let n = zone_numbers site valid place zone.0 zone.1 in
     let p = zone.0.panel - 1 in
-    panel_marks sets before after m p (omega (arith, n))
-    (or_right _ (uses_word sets (256 + 32 * p) (slice_index_or before.manual p 0) (slice_index_or after.manual p 0) m)
-    (user_bit site sets (256 + 32 * p) (slice_index_or before.manual p 0) (slice_index_or after.manual p 0) m (zone.0.number - 1) i
+    panel_marks sets before after k p (omega (arith, n))
+    (or_right _ (uses_word sets (256 + 32 * p) (slice_index_or before.manual p 0) (slice_index_or after.manual p 0) k)
+    (user_bit site sets (256 + 32 * p) (slice_index_or before.manual p 0) (slice_index_or after.manual p 0) m k (zone.0.number - 1) i
     (ManualTerm place) users (omega (arith, n)) at
     (moved p (zone.0.number - 1) ∙ sym (ap (λ (o : Option Zone). 256 + zone_index o) zone.1))
     (zone_differs before.manual after.manual (slice_get site.zones place) zone.0 zone.1 h)))
   where
     moved : (p n : ℕ) → (256 + 32 * p) + n ≡ 256 + (32 * p + n)
     moved p n = omega arith
-changed_marks site valid sets before after m i (FaultTerm panel) users is at h =
+changed_marks site valid sets before after m k i (FaultTerm panel) users is at h =
     let most = valid.forms.panels.1 in
-    or_right (any_below 8 (uses_panel sets before after m)) (uses_word sets 768 before.faults after.faults m)
-    (user_bit site sets 768 before.faults after.faults m (panel - 1) i (FaultTerm panel) users (omega (arith, is, most)) at refl h)
-changed_marks site valid sets before after m i (MarkerTerm other) users is at h = cc
+    or_right (any_below 8 (uses_panel sets before after k)) (uses_word sets 768 before.faults after.faults k)
+    (user_bit site sets 768 before.faults after.faults m k (panel - 1) i (FaultTerm panel) users (omega (arith, is, most)) at refl h)
+changed_marks site valid sets before after m k i (MarkerTerm other) users is at h = cc
 
 -- ---- both ways
 
-bit_of_word : (site : Site) → IsValid site → (sets : List Values) (first before after m : ℕ) (test : Term → Bool) → AreUsersOf site sets →
+-- a marker at a place of the order that is, or depends on, one of whose terms one passes a test
+record PassesBelow (site : Site) (order : List ℕ) (test : Term → Bool) (k : ℕ) : Type 0 where
+  user : ℕ
+  passes : list_any test (terms_of (slice_get site.markers user)) ≡ true
+  marker : ℕ
+  at : slice_get order k ≡ Some marker
+  comes : ComesTo site marker user
+
+bit_of_word : (site : Site) → IsValid site → (order : List ℕ) (sets : List Values) (first before after k : ℕ) (test : Term → Bool)
+    → AreUsersFrom site order 0 sets →
     ((bit : ℕ) (term : Term) → bit < 32 → IsTerm site term → first + bit ≡ place_of (input_of site term)
     → differ (has_bit before bit) (has_bit after bit) ≡ true → test term ≡ true) →
-    uses_word sets first before after m ≡ true → list_any test (terms_of (slice_get site.markers m)) ≡ true
-bit_of_word site valid sets first before after m test users every h =
-    let w = some_below 32 (uses_bit sets first before after m) h in
-    let differs = and_first (differ (has_bit before w.number) (has_bit after w.number)) (is_user sets (first + w.number) m) w.passes in
-    user_term site valid sets (first + w.number) m test users
-    (and_second (differ (has_bit before w.number) (has_bit after w.number)) (is_user sets (first + w.number) m) w.passes)
-    (λ term is place. every w.number term w.below is place differs)
+    uses_word sets first before after k ≡ true → PassesBelow site order test k
+bit_of_word site valid order sets first before after k test users every h =
+    let w = some_below 32 (uses_bit sets first before after k) h in
+    let differs = and_first (differ (has_bit before w.number) (has_bit after w.number)) (is_user sets (first + w.number) k) w.passes in
+    let below = users.only (first + w.number) k
+    (and_second (differ (has_bit before w.number) (has_bit after w.number)) (is_user sets (first + w.number) k) w.passes) in
+    record {
+      user = below.user;
+      passes = user_term site valid (first + w.number) below.user test below.looks (λ term is place. every w.number term w.below is place differs);
+      marker = below.marker;
+      at = below.at;
+      comes = below.comes;
+    }
 
-panel_changed : (site : Site) → IsValid site → (sets : List Values) (before after : Facts) (m panel : ℕ) → AreUsersOf site sets → panel < 8
-    → uses_panel sets before after m panel ≡ true →
-    has_changed site before after m ≡ true
-panel_changed site valid sets before after m panel users less h = elim (or_cases
-    (uses_word sets (32 * panel) (slice_index_or before.zones panel 0) (slice_index_or after.zones panel 0) m)
-    (uses_word sets (256 + 32 * panel) (slice_index_or before.manual panel 0) (slice_index_or after.manual panel 0) m) h) [
-      | inl zones ↦ bit_of_word site valid sets (32 * panel) (slice_index_or before.zones panel 0) (slice_index_or after.zones panel 0) m
+panel_changed : (site : Site) → IsValid site → (order : List ℕ) (sets : List Values) (before after : Facts) (k panel : ℕ)
+    → AreUsersFrom site order 0 sets → panel < 8
+    → uses_panel sets before after k panel ≡ true →
+    PassesBelow site order (is_changed site before after) k
+panel_changed site valid order sets before after k panel users less h = elim (or_cases
+    (uses_word sets (32 * panel) (slice_index_or before.zones panel 0) (slice_index_or after.zones panel 0) k)
+    (uses_word sets (256 + 32 * panel) (slice_index_or before.manual panel 0) (slice_index_or after.manual panel 0) k) h) [
+      | inl zones ↦ bit_of_word site valid order sets (32 * panel) (slice_index_or before.zones panel 0) (slice_index_or after.zones panel 0) k
           (is_changed site before after) users
           (λ bit term small is place. zone_changed site valid before after panel bit term is less small place) zones
-      | inr manual ↦ bit_of_word site valid sets (256 + 32 * panel) (slice_index_or before.manual panel 0) (slice_index_or after.manual panel 0) m
+      | inr manual ↦ bit_of_word site valid order sets (256 + 32 * panel) (slice_index_or before.manual panel 0) (slice_index_or after.manual panel 0) k
           (is_changed site before after) users
           (λ bit term small is place. manual_changed site valid before after panel bit term is less small place) manual
     ]
 
-facts_changed : (site : Site) → IsValid site → (sets : List Values) (before after : Facts) (m : ℕ) → AreUsersOf site sets
-    → uses_facts sets before after m ≡ true →
-    has_changed site before after m ≡ true
-facts_changed site valid sets before after m users h =
-    elim (or_cases (any_below 8 (uses_panel sets before after m)) (uses_word sets 768 before.faults after.faults m) h) [
-      | inl panels ↦ (let w = some_below 8 (uses_panel sets before after m) panels in
-          panel_changed site valid sets before after m w.number users w.below w.passes)
-      | inr faults ↦ bit_of_word site valid sets 768 before.faults after.faults m (is_changed site before after) users
+facts_changed : (site : Site) → IsValid site → (order : List ℕ) (sets : List Values) (before after : Facts) (k : ℕ) → AreUsersFrom site order 0 sets
+    → uses_facts sets before after k ≡ true →
+    PassesBelow site order (is_changed site before after) k
+facts_changed site valid order sets before after k users h =
+    elim (or_cases (any_below 8 (uses_panel sets before after k)) (uses_word sets 768 before.faults after.faults k) h) [
+      | inl panels ↦ (let w = some_below 8 (uses_panel sets before after k) panels in
+          panel_changed site valid order sets before after k w.number users w.below w.passes)
+      | inr faults ↦ bit_of_word site valid order sets 768 before.faults after.faults k (is_changed site before after) users
           (λ bit term small is place. fault_changed site valid before after bit term is place) faults
     ]
 
-changed_facts : (site : Site) → IsValid site → (sets : List Values) (before after : Facts) (m : ℕ) → AreUsersOf site sets
+changed_facts : (site : Site) → IsValid site → (sets : List Values) (before after : Facts) (m k : ℕ) → HasPlaceOf site sets m k
     → (marker : Option Marker) → slice_get site.markers m ≡ marker →
-    list_any (is_changed site before after) (terms_of marker) ≡ true → uses_facts sets before after m ≡ true
-changed_facts site valid sets before after m users None at h = cc
-changed_facts site valid sets before after m users (Some marker) at h =
+    list_any (is_changed site before after) (terms_of marker) ≡ true → uses_facts sets before after k ≡ true
+changed_facts site valid sets before after m k users None at h = cc
+changed_facts site valid sets before after m k users (Some marker) at h =
     let w = one_passes (is_changed site before after) marker.terms h in
-    changed_marks site valid sets before after m w.place w.item users (term_of_marker site valid m marker w.place w.item at w.at)
+    changed_marks site valid sets before after m k w.place w.item users (term_of_marker site valid m marker w.place w.item at w.at)
     (ap (λ (o : Option Marker). slice_get (terms_of o) w.place) at ∙ w.at) w.passes
 
--- the marks that are set at first are those of the markers that have a fact as a term that changed
-pub facts_mark : (site : Site) → IsValid site → (sets : List Values) (before after : Facts) (m : ℕ) → AreUsersOf site sets
-    → uses_facts sets before after m ≡ has_changed site before after m
-facts_mark site valid sets before after m users =
-    same_bool (uses_facts sets before after m) (has_changed site before after m)
-    (facts_changed site valid sets before after m users)
-    (changed_facts site valid sets before after m users (slice_get site.markers m) refl)
+-- the places that are marked are those of the markers that depend on a fact that changed
+pub facts_mark : (site : Site) → IsValid site → (order : List ℕ) → IsOrder site order → (sets : List Values) (before after : Facts) (marks : ℕ → Bool)
+    → AreUsersOf site order sets → ((k : ℕ) → marks k ≡ uses_facts sets before after k) → AreMarksOfChange site before after order marks
+facts_mark site valid order is sets before after marks users same = record {
+  all = λ k m at depends.
+      let w = changed_user site before after m depends in
+      let stands = in_order site order is w.user (depends_within site before after w.user (directly w.user w.changed)) in
+      same k ∙ changed_facts site valid sets before after w.user k
+      (λ place looks. users.users.all place k (record {
+        first = stands.place;
+        late = omega arith;
+        user = w.user;
+        stands = stands.at;
+        looks = looks;
+        marker = m;
+        at = at;
+        comes = w.comes;
+      })) (slice_get site.markers w.user) refl w.changed;
+  only = λ k h.
+      let w = facts_changed site valid order sets before after k users.users (sym (same k) ∙ h) in
+      record { marker = w.marker; at = w.at; depends = comes_to_change site before after w.marker w.user w.comes (directly w.user w.passes) };
+}
 
 -- ---- one panel more
 
@@ -385,12 +422,12 @@ bit_less sets first left less m bit all old more cleared known marked =
     ∙ ap (λ b. old || b) (sym (one_less sets first left less m bit cleared)) ∙ known
 
 -- the lowest bit is one that is left
-pub lowest_is_left : (left : ℕ) → left ≢ 0 → left < 2 ^ 32 → (trailing_zeros w32 left < 32) × (has_bit left (trailing_zeros w32 left) ≡ true)
+lowest_is_left : (left : ℕ) → left ≢ 0 → left < 2 ^ 32 → (trailing_zeros w32 left < 32) × (has_bit left (trailing_zeros w32 left) ≡ true)
 lowest_is_left left some fits =
     let at = bit_at-trailing_zeros w32 left (let e : left ≢ 0 = some in omega (arith, e)) fits in
     (at.0, ap (λ b. b == 1) at.1)
 
-pub cleared_less : (bit left less : ℕ) → IsCleared bit left less → less ≡ with_bit w32 left bit false → less < left
+cleared_less : (bit left less : ℕ) → IsCleared bit left less → less ≡ with_bit w32 left bit false → less < left
 cleared_less bit left less cleared is =
     let low : less ≤ left = subst (λ n. n ≤ left) (sym is) (and_le_l left (bit_not w32 (1 * 2 ^ bit % 2 ^ bits w32))) in
     let apart : less ≢ left = λ same. clash (has_bit less bit) (ap (λ n. has_bit n bit) same ∙ cleared.was) cleared.this in
@@ -398,3 +435,16 @@ cleared_less bit left less cleared is =
   where
     clash : (b : Bool) → b ≡ true → b ≡ false → ⊥
     clash b e f = cc
+
+-- the lowest bit that is left, once it is cleared
+pub lowest_cleared : (left less : ℕ) → left ≢ 0 → left < 2 ^ 32 → has_bit less (trailing_zeros w32 left) ≡ false
+    → ((k : ℕ) → k < 32 → k ≢ trailing_zeros w32 left → has_bit less k ≡ has_bit left k) → IsCleared (trailing_zeros w32 left) left less
+lowest_cleared left less some fits this others =
+    let at = lowest_is_left left some fits in
+    record { below = at.0; was = at.1; this = this; others = others }
+
+pub lowest_less : (left less : ℕ) → left ≢ 0 → left < 2 ^ 32 → has_bit less (trailing_zeros w32 left) ≡ false
+    → ((k : ℕ) → k < 32 → k ≢ trailing_zeros w32 left → has_bit less k ≡ has_bit left k)
+    → less ≡ with_bit w32 left (trailing_zeros w32 left) false → less < left
+lowest_less left less some fits this others is =
+    cleared_less (trailing_zeros w32 left) left less (lowest_cleared left less some fits this others) is

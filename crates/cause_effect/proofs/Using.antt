@@ -2,13 +2,12 @@
 use Rattle.std.proofs.Common.{◌≡◌, ◌≢◌, ◌≤◌, ◌<◌, ◌==◌, ◌+◌, ◌*◌, ◌-◌, ◌&&◌, ◌||◌, inl, inr, ℕ, zero, suc, Bool, true}
 use Rattle.std.proofs.Common.{false, List, [], ◌∷◌, ◌++◌, Option, Some, None, length, take, drop, get_or}
 use Rattle.std.proofs.Common.{refl, sym, ap, ◌∙◌, arith}
-use Rattle.std.specs.Prelude.{slice_get, slice_set, nat_lt}
+use Rattle.std.specs.Prelude.{slice_get, slice_set}
 use Rattle.std.specs.List.{list_any}
-use Rattle.std.proofs.lemmas.Bool.{cases_lt}
 use Rattle.std.proofs.lemmas.Bool.Decides.{eqb_tells, nat_tests}
 use Rattle.std.proofs.lemmas.List.{take-append-le, take_all, take_more}
 use Rattle.std.proofs.lemmas.List.Folds.{list_any-append}
-use Rattle.std.proofs.lemmas.Option.{get_or_from_slice_get, slice_get_past, slice_get_within}
+use Rattle.std.proofs.lemmas.Option.{get_or_from_slice_get, slice_get_within}
 use Rattle.site_types.specs.Valid.{IsValid, IsTerm}
 use Rattle.site_types.specs.declared.site.Site.{Site}
 use Rattle.site_types.specs.declared.marker.Marker.{Marker}
@@ -21,7 +20,7 @@ use Rattle.marker_table.specs.Equations.{values_of}
 use Rattle.marker_table.specs.Table.{zone_index, input_of}
 use Rattle.marker_table.proofs.Rows.{item_at}
 use Rattle.cause_effect.specs.Cycles.{is_marker, has_term, terms_of}
-use Rattle.cause_effect.specs.Users.{place_of, looks_at, uses, is_user, has_marker, AreUsersOf, HasNoUsers}
+use Rattle.cause_effect.specs.Users.{place_of, looks_at, uses, is_user, has_marker}
 use Rattle.cause_effect.proofs.Changing.{or_false}
 use Rattle.cause_effect.proofs.Truths.{or_right}
 
@@ -49,23 +48,23 @@ got_other (first ∷ sets) zero (suc j) set apart = refl
 got_other (first ∷ sets) (suc k) zero set apart = refl
 got_other (first ∷ sets) (suc k) (suc j) set apart = got_other sets k j set (λ e. apart (ap suc e))
 
--- a set with one marker more
-set_more : (old more : ℕ → Bool) (x : ℕ) → more x ≡ true → ((m : ℕ) → m ≢ x → more m ≡ old m) → (m : ℕ) → more m ≡ (old m || (m == x))
+-- a set with one place more
+pub set_more : (old more : ℕ → Bool) (x : ℕ) → more x ≡ true → ((m : ℕ) → m ≢ x → more m ≡ old m) → (m : ℕ) → more m ≡ (old m || (m == x))
 set_more old more x this others m = elim (eqb_tells m x) [
   | inl here ↦ ap more here.1 ∙ (this ∙ sym (or_right (old m) (m == x) here.0))
   | inr apart ↦ others m apart.1 ∙ or_none (old m) (m == x) apart.0
 ]
 
--- a user more at one place
-user_put : (sets : List Values) (place x : ℕ) (old set : Values) → place < length sets → slice_get sets place ≡ Some old →
-    ((m : ℕ) → values_of set m ≡ (values_of old m || (m == x))) →
-    (p m : ℕ) → is_user (slice_set sets place set) p m ≡ (is_user sets p m || ((m == x) && (p == place)))
-user_put sets place x old set fits at is p m = elim (eqb_tells p place) [
+-- users more at one place
+user_put : (sets : List Values) (place : ℕ) (old set : Values) (own : ℕ → Bool) → place < length sets → slice_get sets place ≡ Some old →
+    ((m : ℕ) → values_of set m ≡ (values_of old m || own m)) →
+    (p m : ℕ) → is_user (slice_set sets place set) p m ≡ (is_user sets p m || (own m && (p == place)))
+user_put sets place old set own fits at is p m = elim (eqb_tells p place) [
   | inl here ↦
       (ap (λ n. is_user (slice_set sets place set) n m) here.1 ∙ (ap (λ o. has_marker o m) (got_same sets place set fits) ∙
-      (is m ∙ (put (values_of old m) (m == x) (p == place) here.0 ∙
-      ap (λ b. b || ((m == x) && (p == place))) (sym (ap (λ n. is_user sets n m) here.1 ∙ ap (λ o. has_marker o m) at))))))
-  | inr apart ↦ (ap (λ o. has_marker o m) (got_other sets place p set apart.1) ∙ kept (is_user sets p m) (m == x) (p == place) apart.0)
+      (is m ∙ (put (values_of old m) (own m) (p == place) here.0 ∙
+      ap (λ b. b || (own m && (p == place))) (sym (ap (λ n. is_user sets n m) here.1 ∙ ap (λ o. has_marker o m) at))))))
+  | inr apart ↦ (ap (λ o. has_marker o m) (got_other sets place p set apart.1) ∙ kept (is_user sets p m) (own m) (p == place) apart.0)
 ]
   where
     put : (a b c : Bool) → c ≡ true → (a || b) ≡ (a || (b && c))
@@ -78,20 +77,20 @@ user_put sets place x old set fits at is p m = elim (eqb_tells p place) [
     kept false true c e = sym e
     kept false false c e = refl
 
--- the users with one more term of the marker
-pub term_added : (site : Site) (first sets : List Values) (terms : List Term) (k x : ℕ) (term : Term) (old set : Values)
+-- the users with one more term
+pub term_added : (site : Site) (first sets : List Values) (terms : List Term) (k : ℕ) (own : ℕ → Bool) (term : Term) (old set : Values)
     → slice_get terms k ≡ Some term →
     place_of (input_of site term) < length sets → slice_get sets (place_of (input_of site term)) ≡ Some old →
-    values_of set x ≡ true → ((m : ℕ) → m ≢ x → values_of set m ≡ values_of old m) →
-    ((p m : ℕ) → is_user sets p m ≡ (is_user first p m || ((m == x) && list_any (looks_at site p) (take k terms)))) →
+    ((m : ℕ) → values_of set m ≡ (values_of old m || own m)) →
+    ((p m : ℕ) → is_user sets p m ≡ (is_user first p m || (own m && list_any (looks_at site p) (take k terms)))) →
     (p m : ℕ)
     → is_user (slice_set sets (place_of (input_of site term)) set) p m
-    ≡ (is_user first p m || ((m == x) && list_any (looks_at site p) (take (k + 1) terms)))
-term_added site first sets terms k x term old set at fits there this others known p m =
-    user_put sets (place_of (input_of site term)) x old set fits there (set_more (values_of old) (values_of set) x this others) p m ∙
-    (ap (λ b. b || ((m == x) && (p == place_of (input_of site term)))) (known p m) ∙
-    (together (is_user first p m) (m == x) (list_any (looks_at site p) (take k terms)) (p == place_of (input_of site term)) ∙
-    ap (λ b. is_user first p m || ((m == x) && b)) (sym (any_next (looks_at site p) terms k term at))))
+    ≡ (is_user first p m || (own m && list_any (looks_at site p) (take (k + 1) terms)))
+term_added site first sets terms k own term old set at fits there joined known p m =
+    user_put sets (place_of (input_of site term)) old set own fits there joined p m ∙
+    (ap (λ b. b || (own m && (p == place_of (input_of site term)))) (known p m) ∙
+    (together (is_user first p m) (own m) (list_any (looks_at site p) (take k terms)) (p == place_of (input_of site term)) ∙
+    ap (λ b. is_user first p m || (own m && b)) (sym (any_next (looks_at site p) terms k term at))))
   where
     together : (a b c d : Bool) → ((a || (b && c)) || (b && d)) ≡ (a || (b && (c || d)))
     together true b c d = refl
@@ -115,21 +114,7 @@ place_fits site valid (ManualTerm place) is = let at = item_at site.zones place 
 place_fits site valid (FaultTerm panel) is = let most = valid.forms.panels.1 in omega (arith, is, most)
 place_fits site valid (MarkerTerm other) is = let few = valid.forms.few_markers in omega (arith, is, few)
 
--- ---- marker by marker
-
--- the users of the first k markers
-abbrev pub AreUsersUpTo : Site → ℕ → List Values → Type 0
-AreUsersUpTo site k sets = (place m : ℕ) → is_user sets place m ≡ (nat_lt m k && uses site m place)
-
-pub no_user : (site : Site) (sets : List Values) → HasNoUsers sets → AreUsersUpTo site 0 sets
-no_user site sets are place m = are.none place m ∙ none_below m (uses site m place)
-  where
-    none_below : (m : ℕ) (b : Bool) → false ≡ (nat_lt m 0 && b)
-    none_below m b = first (nat_lt m 0) b (grind (arith, nat_tests))
-      where
-        first : (a b : Bool) → a ≡ false → false ≡ (a && b)
-        first true b e = cc
-        first false b e = refl
+-- ---- no user
 
 -- one more place without a user
 pub none_pushed : (sets : List Values) (set : Values) → ((place m : ℕ) → is_user sets place m ≡ false) → ((m : ℕ) → values_of set m ≡ false)
@@ -138,59 +123,6 @@ none_pushed [] set none empty zero m = empty m
 none_pushed [] set none empty (suc place) m = refl
 none_pushed (first ∷ sets) set none empty zero m = none 0 m
 none_pushed (first ∷ sets) set none empty (suc place) m = none_pushed sets set (λ p n. none (suc p) n) empty place m
-
-pub users_next : (site : Site) (k : ℕ) (marker : Marker) (first sets : List Values) → slice_get site.markers k ≡ Some marker
-    → AreUsersUpTo site k first →
-    ((place m : ℕ)
-    → is_user sets place m ≡ (is_user first place m || ((m == k) && list_any (looks_at site place) marker.terms)))
-    → AreUsersUpTo site (k + 1) sets
-users_next site k marker first sets at known more place m =
-    more place m ∙ (ap (λ b. b || ((m == k) && list_any (looks_at site place) marker.terms)) (known place m) ∙ elim (eqb_tells m k) [
-      | inl here ↦ last (nat_lt m k) (nat_lt m (k + 1)) (m == k) (uses site m place) (list_any (looks_at site place) marker.terms) here.0
-          (below_last m k here.1) (same_terms here.1)
-      | inr apart ↦ other (nat_lt m k) (nat_lt m (k + 1)) (m == k) (uses site m place) (list_any (looks_at site place) marker.terms) apart.0
-          (below_same m k apart.1)
-    ])
-  where
-    below_last : (m k : ℕ) → m ≡ k → (nat_lt m k ≡ false) × (nat_lt m (k + 1) ≡ true)
-    below_last m k e = (grind (arith, nat_tests, e), grind (arith, nat_tests, e))
-
-    below_same : (m k : ℕ) → m ≢ k → nat_lt m k ≡ nat_lt m (k + 1)
-    below_same m k e = grind (arith, nat_tests, e)
-
-    same_terms : m ≡ k → uses site m place ≡ list_any (looks_at site place) marker.terms
-    same_terms e = ap (λ n. uses site n place) e ∙ ap (λ (o : Option Marker). list_any (looks_at site place) (terms_of o)) at
-
-    last : (a c b u t : Bool) → b ≡ true → (a ≡ false) × (c ≡ true) → u ≡ t → ((a && u) || (b && t)) ≡ (c && u)
-    last true c b u t e f g = cc
-    last false true true u t e f g = sym g
-    last false true false u t e f g = cc
-    last false false b u t e f g = cc
-
-    other : (a c b u t : Bool) → b ≡ false → a ≡ c → ((a && u) || (b && t)) ≡ (c && u)
-    other true true false true t e f = refl
-    other true true false false t e f = refl
-    other false false false u t e f = refl
-    other true true true u t e f = cc
-    other false false true u t e f = cc
-    other true false b u t e f = cc
-    other false true b u t e f = cc
-
-pub users_all : (site : Site) (k : ℕ) (sets : List Values) → length site.markers ≤ k → AreUsersUpTo site k sets → AreUsersOf site sets
-users_all site k sets done known place m = known place m ∙ elim (cases_lt m k) [
-  | inl less ↦ ap (λ b. b && uses site m place) (below m k less)
-  | inr past ↦
-      (let gone : uses site m place ≡ false =
-      ap (λ (o : Option Marker). list_any (looks_at site place) (terms_of o)) (slice_get_past site.markers m (omega (arith, done, past))) in
-      none (nat_lt m k) (uses site m place) gone)
-]
-  where
-    below : (m k : ℕ) → m < k → nat_lt m k ≡ true
-    below m k less = grind (arith, nat_tests, less)
-
-    none : (a b : Bool) → b ≡ false → (a && b) ≡ b
-    none true b e = refl
-    none false b e = sym e
 
 -- ---- the users of a marker
 
@@ -230,9 +162,8 @@ looks_at_marker site valid x (FaultTerm panel) fits is = number_apart (512 + x) 
 looks_at_marker site valid x (MarkerTerm other) fits is = number_moved 512 x other
 
 -- the users at a marker's place are the markers that have it as a term
-pub users_of_marker : (site : Site) → IsValid site → (sets : List Values) (x m : ℕ) → x < 256 → AreUsersOf site sets
-    → is_user sets (512 + x) m ≡ has_term site m x
-users_of_marker site valid sets x m fits users = users (512 + x) m ∙ same (slice_get site.markers m) refl
+pub uses_marker : (site : Site) → IsValid site → (x m : ℕ) → x < 256 → uses site m (512 + x) ≡ has_term site m x
+uses_marker site valid x m fits = same (slice_get site.markers m) refl
   where
     same : (marker : Option Marker) → slice_get site.markers m ≡ marker
         → list_any (looks_at site (512 + x)) (terms_of marker) ≡ list_any (is_marker x) (terms_of marker)

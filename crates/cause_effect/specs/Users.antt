@@ -1,5 +1,6 @@
--- Who has a fact or a marker as a term.
-use Rattle.std.specs.Prelude.{◌≡◌, ℕ, ◌+◌, ◌==◌, ◌&&◌, Bool, false, List, Option, Some, None, length, slice_get}
+-- Who has a fact or a marker as a term, or depends on one that has.
+use Rattle.std.specs.Prelude.{◌≡◌, ◌≤◌, ◌⊎◌, ℕ, ◌+◌, ◌==◌, ◌&&◌, ◌||◌, Bool, true, false, List, Option, Some, None}
+use Rattle.std.specs.Prelude.{length, slice_get}
 use Rattle.std.specs.List.{list_any}
 use Rattle.site_types.specs.Bits.{any_below, has_bit}
 use Rattle.site_types.specs.declared.site.Site.{Site}
@@ -10,8 +11,9 @@ use Rattle.marker_table.specs.declared.input.Input.TheVariants.{Fault as FaultIn
 use Rattle.marker_table.specs.declared.values.Values.{Values}
 use Rattle.marker_table.specs.Equations.{values_of}
 use Rattle.marker_table.specs.Table.{input_of}
-use Rattle.cause_effect.specs.Cycles.{terms_of}
-use Rattle.cause_effect.specs.Changes.{differ}
+use Rattle.marker_table.specs.declared.facts.Facts.{Facts}
+use Rattle.cause_effect.specs.Cycles.{terms_of, Depends}
+use Rattle.cause_effect.specs.Changes.{differ, DependsOnChanged}
 
 -- where in the one table the users of call points, of markers and of faults begin, behind those of the zones, and how
 -- many places there are
@@ -51,9 +53,48 @@ has_marker (Some markers) m = values_of markers m
 abbrev pub is_user : List Values → ℕ → ℕ → Bool
 is_user sets place m = has_marker (slice_get sets place) m
 
--- the users at each place are exactly the markers that have what is there as a term
-abbrev pub AreUsersOf : Site → List Values → Type 0
-AreUsersOf site sets = (place m : ℕ) → is_user sets place m ≡ uses site m place
+-- one marker is another or depends on it
+abbrev pub ComesTo : Site → ℕ → ℕ → Type 0
+ComesTo site m user = (m ≡ user) ⊎ Depends site m user
+
+-- the marker at a place of the order is one that has what is at a place as a term, or depends on one that does, this
+-- one coming no earlier in the order than a number
+pub record IsBelow (site : Site) (order : List ℕ) (from place k : ℕ) : Type 0 where
+  pub first : ℕ
+  pub late : from ≤ first
+  pub user : ℕ
+  pub stands : slice_get order first ≡ Some user
+  pub looks : uses site user place ≡ true
+  pub marker : ℕ
+  pub at : slice_get order k ≡ Some marker
+  pub comes : ComesTo site marker user
+
+-- the users at each place are, by their places in the order, the markers that depend on what is there through those
+-- that come no earlier than a number
+pub record AreUsersFrom (site : Site) (order : List ℕ) (from : ℕ) (sets : List Values) : Type 0 where
+  pub all : (place k : ℕ) → IsBelow site order from place k → is_user sets place k ≡ true
+  pub only : (place k : ℕ) → is_user sets place k ≡ true → IsBelow site order from place k
+
+-- the users at each place are exactly the markers that depend on what is there, by their places in an order of at most
+-- 256 markers
+pub record AreUsersOf (site : Site) (order : List ℕ) (sets : List Values) : Type 0 where
+  pub few : length order ≤ 256
+  pub users : AreUsersFrom site order 0 sets
+
+-- a marker and its users, by their places in the order
+abbrev pub joins : List Values → ℕ → ℕ → ℕ → Bool
+joins sets marker position k = is_user sets (markers_from + marker) k || (k == position)
+
+-- a marker that depends on a fact that changed is at a place of the order
+pub record IsMarkedAt (site : Site) (before after : Facts) (order : List ℕ) (k : ℕ) : Type 0 where
+  pub marker : ℕ
+  pub at : slice_get order k ≡ Some marker
+  pub depends : DependsOnChanged site before after marker
+
+-- of the places of the order those are marked whose markers depend on a fact that changed
+pub record AreMarksOfChange (site : Site) (before after : Facts) (order : List ℕ) (marks : ℕ → Bool) : Type 0 where
+  pub all : (k m : ℕ) → slice_get order k ≡ Some m → DependsOnChanged site before after m → marks k ≡ true
+  pub only : (k : ℕ) → marks k ≡ true → IsMarkedAt site before after order k
 
 -- nothing has a user yet, and there is room for those of everything
 pub record HasNoUsers (sets : List Values) : Type 0 where

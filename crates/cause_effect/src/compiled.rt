@@ -32,8 +32,8 @@ pub fn compile(alloc: Global, site: &Site) -> Result<Plan, PlanRefusal>
         }
         None => Ok(Plan {
             table: MarkerTable::new(alloc, site)?,
+            users: Users::of(alloc, site, arranged.order.as_slice())?,
             order: arranged.order,
-            users: Users::of(alloc, site)?,
             outputs: outputs_by_panel(alloc, site)?,
         }),
     }

@@ -14,10 +14,10 @@
 //!
 //! [`compile`] alone takes memory. What the calls cost no clause says, but for the markers that
 //! [`Plan::solve_changed`] evaluates. As they are written, [`compile`] looks at each term at most once for each marker
-//! of the site and nine times at each output, [`Plan::solve`] goes over the order of the markers once, and
-//! [`Plan::requests`] looks at each output of the panel once. [`Plan::solve_changed`] compares the facts, and where
-//! a marker has one that differs as a term it looks at a mark for each marker, and for each bit that differs and each
-//! marker that it evaluates at the eight words of 32 marks of those that have it as a term.
+//! of the site and twice besides, and nine times at each output, [`Plan::solve`] goes over the order of the markers
+//! once, and [`Plan::requests`] looks at each output of the panel once. [`Plan::solve_changed`] compares the facts, and
+//! where one differs it joins, for each bit that differs, the eight words of 32 marks of the markers that depend on it,
+//! and then looks at those markers alone.
 #![tactic(auto)]
 
 mod arranged;

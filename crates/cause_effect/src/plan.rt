@@ -1,6 +1,8 @@
-ghost use Rattle.std.specs.Prelude.{◌≡◌, ◌<◌, [], ℕ, false, slice_index_or, true};
+ghost use Rattle.std.specs.Prelude.{◌≡◌, ◌≢◌, ◌<◌, ◌+◌, [], ℕ, Some, false, slice_get, slice_index_or};
 ghost use Rattle.site_types.specs.declared.site.Site.{Site as SiteOf};
-ghost use Rattle.marker_table.specs.Equations.{values_of};
+ghost use Rattle.marker_table.specs.declared.facts.Facts.{Facts as FactsOf};
+ghost use Rattle.marker_table.specs.Equations.{equation, values_of};
+ghost use Rattle.marker_table.specs.Table.{HasFacts, value_read};
 ghost use Rattle.cause_effect.specs.Changes.{DependsOnChanged, RoseByNumberOf};
 ghost use Rattle.cause_effect.specs.Requests.{requests_of};
 ghost use Rattle.cause_effect.specs.Solutions.{IsSolution};
@@ -8,8 +10,8 @@ ghost use Rattle.cause_effect.specs.Stands.{IsPlanOf};
 
 use crate::asked::requests_among;
 use crate::users::Users;
-use marker_table::{Facts, MarkerTable, Steps, Values};
-use site_types::{Output, Requests};
+use marker_table::{Facts, MarkerTable, Readings, Steps, Values};
+use site_types::{Output, Requests, with_bit_32};
 use std::marker::Brand;
 use std::sync::ledger::{Blank, Ledger};
 use tick_units::Items;
@@ -71,16 +73,34 @@ impl Plan {
         if before == after {
             return;
         }
-        let mut marks = self.users.marks_of(before, after);
-        if is_none(&marks) {
-            return;
-        }
-        for marker in self.order.as_slice() {
-            if marks.is_true(*marker as u16) {
-                let value = self.table.evaluate(*marker as u16, after, values, steps);
-                values.set(*marker, value);
-                self.users.mark_users(*marker, &mut marks);
+        let marks = self.users.marks_of(before, after);
+        let mut readings = Readings::of(after, values);
+        for number in 0..8 {
+            let mut left = marks.word(number);
+            while left != 0 {
+                let bit = left.trailing_zeros() as u8;
+                self.solve_at(32 * number + bit as usize, &mut readings, steps);
+                left = with_bit_32(left, bit, false);
             }
+        }
+        *values = readings.values();
+    }
+
+    // Evaluates the marker at a place of the order, if there is one.
+    fn solve_at<L: Ledger>(&self, place: usize, readings: &mut Readings, steps: &mut Steps<L>)
+        ensures facts { (facts : FactsOf) → HasFacts facts readings.old
+            → HasFacts facts readings.new }
+        ensures value { (site : SiteOf) (facts : FactsOf) (m : ℕ) → IsPlanOf site self.now
+            → HasFacts facts readings.old → slice_get self.now.order place ≡ Some m
+            → value_read readings.new m ≡ equation site facts (value_read readings.old) m }
+        ensures others { (marker other : ℕ) → slice_get self.now.order place ≡ Some marker
+            → other ≢ marker → value_read readings.new other ≡ value_read readings.old other }
+        ensures step { (marker : ℕ) → slice_get self.now.order place ≡ Some marker
+            → steps.new ≡ steps.old + 1 }
+    {
+        if let Some(marker) = self.order.get(place) {
+            let value = self.table.evaluate_read(*marker as u16, readings, steps);
+            readings.put(*marker, value);
         }
     }
 
@@ -101,11 +121,4 @@ impl Plan {
             None => &[],
         }
     }
-}
-
-// Whether no marker is true.
-fn is_none(values: &Values) -> bool
-    ensures { result ≡ true → (marker : ℕ) → values_of values.now marker ≡ false }
-{
-    *values == Values::none()
 }

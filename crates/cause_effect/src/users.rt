@@ -1,11 +1,11 @@
-//! Which markers have a fact, or a marker, as a term.
+//! Which markers depend on a fact, or on a marker: by their terms, or by those of other markers.
 
-ghost use Rattle.std.specs.Prelude.{◌≡◌, ◌≤◌, ◌<◌, ◌+◌, ◌||◌, ℕ};
+ghost use Rattle.std.specs.Prelude.{◌≡◌, ◌≤◌, ◌||◌, List, ℕ};
 ghost use Rattle.site_types.specs.Valid.{IsValid};
 ghost use Rattle.site_types.specs.declared.site.Site.{Site as SiteOf};
-ghost use Rattle.cause_effect.specs.Changes.{has_changed};
 ghost use Rattle.marker_table.specs.Equations.{values_of};
-ghost use Rattle.cause_effect.specs.Users.{AreUsersOf, faults_from, is_user, markers_from, uses_word};
+ghost use Rattle.cause_effect.specs.Orders.{IsOrder};
+ghost use Rattle.cause_effect.specs.Users.{AreMarksOfChange, AreUsersOf, faults_from, is_user, uses_word};
 
 use marker_table::{Facts, Values};
 use site_types::with_bit_32;
@@ -21,8 +21,8 @@ pub(crate) const FAULTS_FROM: usize = 768;
 
 pub(crate) const PLACES: usize = 776;
 
-/// For each fact and each marker, the markers that have it as a term: those of the 256 zones, of their call
-/// points, of the 256 markers and of the faults of 8 panels. A set of markers stands as the values in which they
+/// For each fact and each marker, the markers that depend on it: those of the 256 zones, of their call points, of the
+/// 256 markers and of the faults of 8 panels. A set of markers stands as the values in which their places in the order
 /// are true.
 #[derive(Drop)]
 pub(crate) struct Users {
@@ -30,10 +30,11 @@ pub(crate) struct Users {
 }
 
 impl Users {
-    // Marks the markers that have a fact as a term that changed.
+    // Marks the markers that depend on a fact that changed.
     pub(crate) fn marks_of(&self, before: &Facts, after: &Facts) -> Values
-        ensures { (site : SiteOf) → IsValid site → AreUsersOf site self.now.sets → (m : ℕ)
-            → m < 256 → values_of result m ≡ has_changed site before.now after.now m }
+        ensures { (site : SiteOf) (order : List ℕ) → IsValid site → IsOrder site order
+            → AreUsersOf site order self.now.sets
+            → AreMarksOfChange site before.now after.now order (values_of result) }
     {
         let mut marks = Values::none();
         for panel in 0..8 {
@@ -59,20 +60,10 @@ impl Users {
         marks
     }
 
-    // Marks the markers that have a marker as a term.
-    pub(crate) fn mark_users(&self, marker: u8, marks: &mut Values)
-        ensures { (m : ℕ) → m < 256
-            → values_of marks.new m
-            ≡ (values_of marks.old m || is_user self.now.sets (markers_from + marker) m) }
-    {
-        self.mark(MARKERS_FROM + marker as usize, marks);
-    }
-
     // Marks the users of the bits that differ in two masks, the first bit's being at a place.
     fn mark_word(&self, first: usize, before: u32, after: u32, marks: &mut Values)
         requires { first ≤ faults_from }
-        ensures { (m : ℕ) → m < 256
-            → values_of marks.new m
+        ensures { (m : ℕ) → values_of marks.new m
             ≡ (values_of marks.old m || uses_word self.now.sets first before after m) }
     {
         let mut left = before ^ after;
@@ -85,8 +76,7 @@ impl Users {
 
     // Marks the users of what is at a place.
     fn mark(&self, place: usize, marks: &mut Values)
-        ensures { (m : ℕ) → m < 256
-            → values_of marks.new m
+        ensures { (m : ℕ) → values_of marks.new m
             ≡ (values_of marks.old m || is_user self.now.sets place m) }
     {
         if let Some(users) = self.sets.get(place) {

@@ -1,6 +1,5 @@
 -- The masks that are made of what is seen of an answer are its finding.
 use Rattle.std.proofs.Common.{◌≡◌, ℕ, ◌+◌, ◌<◌, ◌^◌, Bool, false, true, List, Option, Some, None, get_or, not, slice_get, ◌==◌, ◌&&◌, ◌||◌, nat_le, if◌then◌else◌, refl, sym, ◌∙◌, ap, subst, arith}
-use Rattle.tick_units.specs.declared.tick.Tick.{Tick}
 use Rattle.site_types.specs.declared.site.Site.{Site}
 use Rattle.site_types.specs.declared.answer.Answer.{Answer}
 use Rattle.site_types.specs.declared.retained.Retained.{Retained}
@@ -42,10 +41,21 @@ HasBit mask number on = (k : ℕ) → k < 32 → has_bit mask k ≡ (if (k + 1) 
 abbrev pub HasBits : ℕ → ℕ → Bool → ℕ → Bool → Type 0
 HasBits mask number on other also = (k : ℕ) → k < 32 → has_bit mask k ≡ (if (k + 1) == number then on else (((k + 1) == other) && also))
 
-same_finding : (stamp : Tick) (point c d f g m n r q : ℕ) (a b : Bool) → c ≡ d → f ≡ g → m ≡ n → r ≡ q → a ≡ b
-    → ◌≡◌ {A = Finding} (record { stamp = stamp; point = point; counted = c; confirmed = f; manual = m; released = r; missing = a })
-    (record { stamp = stamp; point = point; counted = d; confirmed = g; manual = n; released = q; missing = b })
-same_finding stamp point c d f g m n r q a b e1 e2 e3 e4 e5 = cc
+-- the finding of an answer that tells of zones by these masks
+abbrev pub finding_by : Answer → (counted confirmed manual released : ℕ) → (missing : Bool) → Finding
+finding_by answer counted confirmed manual released missing = record {
+  stamp = answer.stamp;
+  point = answer.point;
+  counted = counted;
+  confirmed = confirmed;
+  manual = manual;
+  released = released;
+  missing = missing;
+}
+
+same_finding : (answer : Answer) (c d f g m n r q : ℕ) (a b : Bool) → c ≡ d → f ≡ g → m ≡ n → r ≡ q → a ≡ b
+    → finding_by answer c f m r a ≡ finding_by answer d g n q b
+same_finding answer c d f g m n r q a b e1 e2 e3 e4 e5 = cc
 
 module _ {site : Site} {kept : Retained} {panel : ℕ} {done : List Done} {all : List Answer} {decide : Decide} (stands :
     DecidesFor site kept panel done all decide) (answer : Answer) (fits : Fits site panel done all answer)
@@ -99,18 +109,9 @@ module _ {site : Site} {kept : Retained} {panel : ℕ} {done : List Done} {all :
       → HasBit counted z.number seen.counted → HasBits confirmed z.number (own_confirmed z.rule seen) found.number found.confirmed
       → HasBit manual z.number (seen.counted && seen.manual)
       → HasBits released z.number (own_released z.rule seen) found.number found.released → missing ≡ nat_le missing_askings r.silent
-      → ◌≡◌ {A = Finding} (record {
-        stamp = answer.stamp;
-        point = answer.point;
-        counted = counted;
-        confirmed = confirmed;
-        manual = manual;
-        released =
-            released;
-        missing = missing;
-      }) (finding_among site kept panel done all answer)
+      → finding_by answer counted confirmed manual released missing ≡ finding_among site kept panel done all answer
   finding_is observes partner counted confirmed manual released missing c f m l cs fs ms ls miss =
-      same_finding answer.stamp answer.point counted _ confirmed _ manual _ released _ missing _
+      same_finding answer counted _ confirmed _ manual _ released _ missing _
       (mask_is site stands.wired panel w.point.zone w.zone w.is_zone w.zone_at (λ q. is_counted site kept done answer && is_of site q answer.point)
       seen.counted
       (own_counted site kept done all answer w.point w.zone seen stands.wired w.is_point w.is_zone stands.order fits.late observes)
@@ -149,15 +150,7 @@ pub plain_finding_is : {site : Site} {kept : Retained} {panel : ℕ} {done : Lis
     (judgement : Judgement) → Judges site kept done answer judgement → z.rule ≡ Plain → z.partner ≡ None → (told manual : ℕ) (missing : Bool)
     → told < 2 ^ 32 → manual < 2 ^ 32 → HasBit told z.number judgement.counted → HasBit manual z.number (judgement.counted && r.manual)
     → missing ≡ nat_le missing_askings r.silent
-    → ◌≡◌ {A = Finding} (record {
-      stamp = answer.stamp;
-      point = answer.point;
-      counted = told;
-      confirmed = told;
-      manual = manual;
-      released = told;
-      missing = missing;
-    }) (finding_among site kept panel done all answer)
+    → finding_by answer told told manual told missing ≡ finding_among site kept panel done all answer
 plain_finding_is {site} {kept} {panel} {done} {all} {decide} stands answer fits r z e h judgement judges plain alone told manual missing t m ts ms miss =
     let w = watched stands answer.point fits.own in
     let watches = zone_watched stands answer.point fits.own r z e h in
@@ -211,12 +204,11 @@ no_release site kept done all q answer (Some C) uncounted =
 pub quiet_is : {site : Site} {kept : Retained} {panel : ℕ} {done : List Done} {all : List Answer} {decide : Decide}
     → DecidesFor site kept panel done all decide → (answer : Answer) → Fits site panel done all answer → is_alarm answer.heard ≡ false →
     (r : PointWatch) → r ≡ get_or decide.points answer.point r → (missing : Bool) → missing ≡ nat_le missing_askings r.silent →
-    ◌≡◌ {A = Finding} (record { stamp = answer.stamp; point = answer.point; counted = 0; confirmed = 0; manual = 0; released = 0; missing = missing })
-    (finding_among site kept panel done all answer)
+    finding_by answer 0 0 0 0 missing ≡ finding_among site kept panel done all answer
 quiet_is {site} {kept} {panel} {done} {all} {decide} stands answer fits quiet r e missing miss =
     let w = watched stands answer.point fits.own in
     let uncounted : is_counted site kept done answer ≡ false = ap (λ b. b && not (is_blocked site kept done answer.point answer.stamp.0)) quiet in
-    same_finding answer.stamp answer.point 0 _ 0 _ 0 _ 0 _ missing _
+    same_finding answer 0 _ 0 _ 0 _ 0 _ missing _
     (no_mask site panel (λ q. is_counted site kept done answer && is_of site q answer.point)
     (λ q. ap (λ b. b && is_of site q answer.point) uncounted))
     (no_mask site panel (λ q. confirms site kept done all q answer) (λ q. no_confirm site kept done all q answer uncounted))

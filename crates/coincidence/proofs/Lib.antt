@@ -13,6 +13,7 @@ pub mod Turned
 pub mod PlaceSets
 pub mod Resting
 pub mod RunItems
+pub mod Passed
 -- operations: what is kept after one, by its kind, and that those of other panels change nothing
 pub mod AppliedOperation
 pub mod OperationKinds

@@ -11,7 +11,6 @@ use Rattle.site_types.specs.declared.rule.Rule.TheVariants.{Plain}
 use Rattle.site_types.specs.Done.{Done}
 use Rattle.site_types.specs.Profile.{missing_askings}
 use Rattle.coincidence_rules.proofs.Lists.{same_place}
-use Rattle.coincidence_rules.specs.declared.finding.Finding.{Finding}
 use Rattle.coincidence_rules.specs.Counted.{is_silent}
 use Rattle.coincidence_rules.specs.Findings.{finding_of}
 use Rattle.coincidence_rules.specs.Missing.{latest_of, begins_silent}
@@ -22,7 +21,7 @@ use Rattle.coincidence.specs.declared.judgement.Judgement.{Judgement}
 use Rattle.coincidence.specs.Observations.{Judges}
 use Rattle.coincidence.specs.Premises.{IsOwn, MayTake}
 use Rattle.coincidence.specs.Stands.{DecidesFor}
-use Rattle.coincidence.proofs.FindingIs.{HasBit, plain_finding_is}
+use Rattle.coincidence.proofs.FindingIs.{HasBit, finding_by, plain_finding_is}
 use Rattle.coincidence.proofs.Observations.{fits_last}
 use Rattle.coincidence.proofs.TakenAnswer.{latest_more}
 use Rattle.coincidence.proofs.Watched.{read_is, watched, zone_watched}
@@ -72,15 +71,7 @@ module _ {site : Site} {kept : Retained} {panel : ℕ} {done : List Done} {taken
       → (judgement : Judgement) → Judges site kept done answer judgement → is_silent answer.heard ≡ false → z.rule ≡ Plain → z.partner ≡ None
       → (told manual : ℕ) → told < 2 ^ 32 → manual < 2 ^ 32 → HasBit told z.number judgement.counted
       → HasBit manual z.number (judgement.counted && r.manual)
-      → ◌≡◌ {A = Finding} (record {
-        stamp = answer.stamp;
-        point = answer.point;
-        counted = told;
-        confirmed = told;
-        manual = manual;
-        released = told;
-        missing = false;
-      }) (finding_of site kept panel done taken answer)
+      → finding_by answer told told manual told false ≡ finding_of site kept panel done taken answer
   plain_alarm_is r z e h judgement judges heard plain alone told manual t m ts ms =
       let w = watched stands answer.point own in
       let n = watched noted answer.point own in

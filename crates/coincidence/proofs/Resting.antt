@@ -1,18 +1,14 @@
 -- Answers that leave what is kept of their points leave all that is kept as it is.
-use Rattle.std.proofs.Common.{◌≡◌, inl, inr, ℕ, zero, suc, ◌+◌, ◌≤◌, ◌<◌, ◌==◌, Bool, true, false, nat_le, if◌then◌else◌, refl, sym, ◌∙◌, ap, subst, arith}
-use Rattle.std.proofs.Common.{All, List, min, [], ◌∷◌, ◌++◌, map, get_or, slice_get, set, Option, Some, None, append_assoc, append-nil}
-use Rattle.std.specs.List.{range_with_len}
+use Rattle.std.proofs.Common.{◌≡◌, ◌⊎◌, ◌^◌, ◌&&◌, inl, inr, nat_lt, not, ℕ, ◌+◌, ◌≤◌, ◌<◌, ◌==◌, Bool, true, false, nat_le, refl, sym, ◌∙◌, ap, arith}
+use Rattle.std.proofs.Common.{List, min, [], ◌∷◌, ◌++◌, get_or, slice_get, set, Option, Some, None}
 use Rattle.std.specs.Option.{is_none}
 use Rattle.std.proofs.lemmas.Bool.{eqb-true}
-use Rattle.std.proofs.lemmas.Bool.Decides.{eqb_tells}
 use Rattle.std.proofs.lemmas.List.{set-get_or}
-use Rattle.std.proofs.lemmas.List.Elements.{All-head, All-tail}
-use Rattle.std.proofs.lemmas.List.FromFn.{get_or-map-range_with_len}
 use Rattle.std.proofs.lemmas.Option.{get_or_from_slice_get}
-use Rattle.answer_lanes.proofs.Moving.{length_run}
+use Rattle.answer_lanes.proofs.MaskBits.{lt_is, set_below}
+use Rattle.site_types.proofs.Done.{lt_tells}
 use Rattle.coincidence.proofs.Watched.{Watched, watched}
 use Rattle.tick_units.specs.declared.tick.Tick.{Tick}
-use Rattle.tick_units.specs.Lane.{LaneState, with_put}
 use Rattle.site_types.specs.declared.site.Site.{Site}
 use Rattle.site_types.specs.declared.answer.Answer.{Answer}
 use Rattle.site_types.specs.declared.heard.Heard.{Heard}
@@ -22,27 +18,23 @@ use Rattle.site_types.specs.Bits.{has_bit}
 use Rattle.site_types.specs.Done.{Done}
 use Rattle.site_types.specs.Profile.{missing_askings}
 use Rattle.coincidence_rules.proofs.Lists.{and_both}
-use Rattle.coincidence_rules.specs.declared.finding.Finding.{Finding}
 use Rattle.coincidence_rules.specs.Counted.{is_alarm, is_silent}
-use Rattle.coincidence_rules.specs.Findings.{finding_of, findings_after}
+use Rattle.coincidence_rules.specs.Findings.{finding_of}
 use Rattle.answer_lanes.specs.declared.run.Run.{Run}
 use Rattle.answer_lanes.specs.declared.answer_group.AnswerGroup.{AnswerGroup}
-use Rattle.answer_lanes.specs.declared.finding_group.FindingGroup.{FindingGroup}
 use Rattle.answer_lanes.specs.Groups.{AreMatching, IsMatching}
-use Rattle.answer_lanes.specs.Points.{answer_at, finding_at}
-use Rattle.answer_lanes.specs.Runs.{items_of}
+use Rattle.answer_lanes.specs.Points.{answer_at}
 use Rattle.coincidence.specs.declared.decide.Decide.{Decide}
 use Rattle.coincidence.specs.declared.point_watch.PointWatch.{PointWatch}
-use Rattle.coincidence.specs.Changes.{FindsNext, PutsFindings, TakesAnswers}
+use Rattle.coincidence.specs.Changes.{FindsNext, TakesAnswers}
 use Rattle.coincidence.specs.Parts.{is_at_rest, leaves_watch, point_noted, silent_then, stays_missing}
 use Rattle.coincidence.specs.Places.{TellsEight}
 use Rattle.coincidence.specs.Premises.{MayTake}
-use Rattle.coincidence.specs.Resting.{LeavesPoint, plain_of}
+use Rattle.coincidence.specs.Resting.{IsWithinEight, LeavesPoint, TellsChanging, plain_of}
 use Rattle.coincidence.specs.Stands.{DecidesFor}
 use Rattle.coincidence.proofs.Observations.{fits_last}
 use Rattle.coincidence.proofs.FindingIs.{quiet_is}
 use Rattle.coincidence.proofs.TakenAnswer.{quiet_noted}
-use Rattle.coincidence.proofs.Turned.{may_behind, may_front}
 
 -- such an answer is no alarm
 no_alarm_left : (heard : Heard) (watch : PointWatch) → leaves_watch heard watch ≡ true → is_alarm heard ≡ false
@@ -102,45 +94,6 @@ module _ {site : Site} {kept : Retained} {panel : ℕ} {done : List Done} {taken
       quiet_is stands_at_rest answer (fits_last site kept panel done taken answer may) (no_alarm_left answer.heard w.watch left) w.watch read
       (is_silent answer.heard) (missing_left answer.heard w.watch left)
 
-module _ (site : Site) (kept : Retained) (panel : ℕ) (done : List Done) (decide : Decide) where
-  stands_behind : (taken xs : List Answer) → All (LeavesPoint decide) xs → DecidesFor site kept panel done taken decide
-      → MayTake site panel done taken xs → DecidesFor site kept panel done (taken ++ xs) decide
-  stands_behind taken [] rest stands may = subst (λ ys. DecidesFor site kept panel done ys decide) (sym (append-nil taken)) stands
-  stands_behind taken (x ∷ xs) rest stands may =
-      subst (λ ys. DecidesFor site kept panel done ys decide) (append_assoc taken (x ∷ []) xs)
-      (stands_behind (taken ++ x ∷ []) xs (All-tail (LeavesPoint decide) x xs rest)
-      (stands_at_rest stands x (may_front (x ∷ []) xs may) (All-head (LeavesPoint decide) x xs rest)) (may_behind (x ∷ []) xs may))
-
-  found_behind : (taken xs : List Answer) → All (LeavesPoint decide) xs → DecidesFor site kept panel done taken decide
-      → MayTake site panel done taken xs → map plain_of xs ≡ findings_after site kept panel done taken xs
-  found_behind taken [] rest stands may = refl
-  found_behind taken (x ∷ xs) rest stands may =
-      let front = may_front (x ∷ []) xs may in
-      let first = All-head (LeavesPoint decide) x xs rest in
-      ap (λ f. f ∷ map plain_of xs) (found_at_rest stands x front first)
-      ∙ ap (λ fs. finding_of site kept panel done taken x ∷ fs)
-      (found_behind (taken ++ x ∷ []) xs (All-tail (LeavesPoint decide) x xs rest) (stands_at_rest stands x front first) (may_behind (x ∷ []) xs may))
-
-pub takes_at_rest : (decide : Decide) (xs : List Answer) → All (LeavesPoint decide) xs → TakesAnswers decide xs decide
-takes_at_rest decide xs rest site kept panel done taken stands may = stands_behind site kept panel done decide taken xs rest stands may
-
--- the plain findings of a run
-plain_items : (answers : AnswerGroup) (found : FindingGroup) (from count : ℕ)
-    → ((k : ℕ) → finding_at found k ≡ plain_of (answer_at answers k))
-    → map (finding_at found) (range_with_len from count) ≡ map plain_of (map (answer_at answers) (range_with_len from count))
-plain_items answers found from zero are = refl
-plain_items answers found from (suc count) are =
-    ap (λ f. f ∷ map (finding_at found) (range_with_len (from + 1) count)) (are from)
-    ∙ ap (λ fs. plain_of (answer_at answers from) ∷ fs) (plain_items answers found (from + 1) count are)
-
-pub puts_at_rest : (decide : Decide) (run : Run AnswerGroup) (found : FindingGroup) (l m : LaneState Finding)
-    → All (LeavesPoint decide) (items_of answer_at run) → ((k : ℕ) → finding_at found k ≡ plain_of (answer_at run.first k))
-    → m ≡ with_put l (map (finding_at found) (range_with_len run.taken run.count)) → PutsFindings decide (items_of answer_at run) l m
-puts_at_rest decide run found l m rest are put site kept panel done taken stands may =
-    put
-    ∙ ap (with_put l) (plain_items run.first found run.taken run.count are
-    ∙ found_behind site kept panel done decide taken (items_of answer_at run) rest stands may)
-
 -- an answer that is quiet of a point at rest, or silent of one that stays missing, leaves its point
 left_if : (decide : Decide) (answer : Answer) (quiet silent : Bool) → ((watch : PointWatch) → slice_get decide.points answer.point ≡ Some watch → quiet ≡ is_at_rest watch)
     → ((watch : PointWatch) → slice_get decide.points answer.point ≡ Some watch → silent ≡ stays_missing watch) → IsMatching answer.heard quiet silent
@@ -150,23 +103,42 @@ left_if decide answer quiet silent rests missing (inl is) watch there =
 left_if decide answer quiet silent rests missing (inr is) watch there =
     ap (λ h. leaves_watch h watch) is.0 ∙ sym (missing watch there) ∙ is.1
 
--- where the first bits tell of points that are left as they are, the answers of a run leave them
-pub left_in_run : (decide : Decide) (run : Run AnswerGroup) (from resting missing bits : ℕ) → from ≡ run.first.point + run.taken → run.count ≤ 8
-    → from + run.count ≤ 65535 → TellsEight is_at_rest decide.points from resting → TellsEight stays_missing decide.points from missing
-    → AreMatching run.first run.taken resting missing bits → ((k : ℕ) → k < run.count → has_bit bits k ≡ true)
-    → All (LeavesPoint decide) (items_of answer_at run)
-left_in_run decide run from resting missing bits is_from few numbered rests misses match set_bits k d small =
-    let count = length_run answer_at run in
-    let in_run : k < run.count = omega (arith, small, count) in
+-- the answers of a run whose bits tell that their points are left as they are leave them
+left_in_run : (decide : Decide) (run : Run AnswerGroup) (from resting missing bits : ℕ) → from ≡ run.first.point + run.taken → IsWithinEight run
+    → TellsEight is_at_rest decide.points from resting → TellsEight stays_missing decide.points from missing
+    → AreMatching run.first run.taken resting missing bits → (k : ℕ) → k < run.count → has_bit bits k ≡ true
+    → LeavesPoint decide (answer_at run.first (run.taken + k))
+left_in_run decide run from resting missing bits is_from within rests misses match k in_run set_bit =
+    let places = within.places in
+    let points = within.points in
     let place = run.taken + k in
-    let item : get_or (items_of answer_at run) k d ≡ answer_at run.first place =
-    get_or-map-range_with_len (answer_at run.first) run.taken run.count k place d in_run refl in
-    let eight : k < 8 = omega (arith, in_run, few) in
-    let point : (answer_at run.first place).point ≡ from + k = (let here : min (run.first.point + place) 65535 ≡ from + k = omega (arith, is_from, in_run, numbered) in here) in
-    subst (LeavesPoint decide) (sym item)
-    (left_if decide (answer_at run.first place) (has_bit resting k) (has_bit missing k)
+    let eight : k < 8 = omega (arith, in_run, places) in
+    let point : (answer_at run.first place).point ≡ from + k = (let here : min (run.first.point + place) 65535 ≡ from + k = omega (arith, is_from, in_run, places, points) in here) in
+    left_if decide (answer_at run.first place) (has_bit resting k) (has_bit missing k)
     (λ watch there. rests k watch eight (ap (slice_get decide.points) (sym point) ∙ there))
-    (λ watch there. misses k watch eight (ap (slice_get decide.points) (sym point) ∙ there)) (match k eight (set_bits k in_run)))
+    (λ watch there. misses k watch eight (ap (slice_get decide.points) (sym point) ∙ there)) (match k eight set_bit)
+
+-- the others may change them
+pub changing_in_run : (decide : Decide) (run : Run AnswerGroup) (from resting missing still front changing : ℕ) → from ≡ run.first.point + run.taken
+    → IsWithinEight run → TellsEight is_at_rest decide.points from resting → TellsEight stays_missing decide.points from missing
+    → AreMatching run.first run.taken resting missing still → ((k : ℕ) → has_bit front k ≡ nat_lt k run.count)
+    → ((k : ℕ) → k < 8 → has_bit changing k ≡ (has_bit front k && not (has_bit still k))) → changing < 2 ^ 8 → TellsChanging decide run changing
+changing_in_run decide run from resting missing still front changing is_from within rests misses match fronts parts fits = record {
+  within = λ k set_bit. in_front k (lt_tells k run.count) (and_both (has_bit front k) (not (has_bit still k)) (sym (parts k (set_below changing k fits set_bit)) ∙ set_bit)).0;
+  left = λ k in_run clear.
+      let places = within.places in
+      left_in_run decide run from resting missing still is_from within rests misses match k in_run
+      (by (has_bit front k) (has_bit still k) (fronts k ∙ lt_is k run.count in_run) (sym (parts k (omega (arith, in_run, places))) ∙ clear));
+}
+  where
+    in_front : (k : ℕ) → ((nat_lt k run.count ≡ true) × (k < run.count)) ⊎ ((nat_lt k run.count ≡ false) × (run.count ≤ k)) → has_bit front k ≡ true → k < run.count
+    in_front k (inl less) set_bit = less.1
+    in_front k (inr past) set_bit = absurd (let is = sym (fronts k) ∙ set_bit in let no = past.0 in cc)
+
+    by : (is kept : Bool) → is ≡ true → (is && not kept) ≡ false → kept ≡ true
+    by true true e f = refl
+    by true false e f = absurd (cc)
+    by false kept e f = absurd (cc)
 
 -- one answer, asked for by itself
 pub left_one : (decide : Decide) (answer : Answer) (bits : ℕ) → TellsEight (leaves_watch answer.heard) decide.points answer.point bits → has_bit bits 0 ≡ true

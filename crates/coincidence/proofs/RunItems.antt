@@ -1,7 +1,7 @@
 -- The answers of a run one after the other, and those of runs one run after the other.
 use Rattle.std.proofs.Common.{◌≡◌, ℕ, ◌+◌, ◌-◌, ◌<◌, ◌≤◌, List, [], ◌∷◌, ◌++◌, length, map, take, drop, get_or, sym, ◌∙◌, ap, arith}
 use Rattle.std.proofs.lemmas.Grind.{flat_map-append}
-use Rattle.std.proofs.lemmas.List.{map-append, length-take, take-append-drop, take_all, take_more}
+use Rattle.std.proofs.lemmas.List.{map-append, length-take, take-append-drop, take_more}
 use Rattle.std.proofs.lemmas.List.FromFn.{map-range_with_len_more}
 use Rattle.std.specs.List.{range_with_len}
 use Rattle.tick_units.specs.Lane.{LaneState, turn_count}
@@ -59,9 +59,6 @@ pub runs_at : (runs : List (Run AnswerGroup)) (k : ℕ)
     → all_items answer_at runs ≡ all_items answer_at (take k runs) ++ all_items answer_at (drop k runs)
 runs_at runs k =
     ap (all_items answer_at) (sym (take-append-drop k runs)) ∙ flat_map-append (items_of answer_at) (take k runs) (drop k runs)
-
-pub all_runs : (runs : List (Run AnswerGroup)) (k : ℕ) → length runs ≤ k → all_items answer_at (take k runs) ≡ all_items answer_at runs
-all_runs runs k all = ap (all_items answer_at) (take_all k runs all)
 
 -- a turn takes no more than the quota of the lane
 pub few_taken : (lane : LaneState Answer) (xs : List Answer) → xs ≡ taken_by lane → lane.quota ≤ 32 → length xs ≤ 32

@@ -8,6 +8,7 @@ use Rattle.std.proofs.lemmas.List.{reverse-append, set-get_or}
 use Rattle.std.proofs.lemmas.Option.{get_or_from_slice_get}
 use Rattle.std.proofs.lemmas.List.Elements.{filter-append}
 use Rattle.std.specs.Vec.{with_item}
+use Rattle.circular_buffer.proofs.Places.{slice_get-set_other}
 use Rattle.tick_units.specs.declared.tick.Tick.{Tick}
 use Rattle.site_types.specs.declared.site.Site.{Site}
 use Rattle.site_types.specs.declared.point.Point.{Point as PointPlan}
@@ -29,6 +30,7 @@ use Rattle.coincidence.specs.declared.point_watch.PointWatch.{PointWatch}
 use Rattle.coincidence.specs.declared.zone_watch.ZoneWatch.{ZoneWatch}
 use Rattle.coincidence.specs.declared.decide.Decide.{Decide}
 use Rattle.coincidence.specs.Parts.{stamp_of, besides_by, besides, other_after, noted, silent_then, point_noted, zone_noted}
+use Rattle.coincidence.specs.Changes.{NotesPoint}
 use Rattle.coincidence.specs.Stands.{WatchesPoint, WatchesZone, DecidesFor}
 use Rattle.coincidence.specs.Premises.{IsOwn, MayTake}
 use Rattle.coincidence.proofs.Watched.{read_is, Watched, watched, zone_read, zone_watch_read}
@@ -320,7 +322,6 @@ pub quiet_noted : {site : Site} {kept : Retained} {panel : ℕ} {done : List Don
       zones =
           decide.zones;
       reset = decide.reset;
-      batch = decide.batch;
     })
 quiet_noted {site} {kept} {panel} {done} {taken} {decide} stands answer may quiet q s eq es =
     let own = may.own 0 answer refl in
@@ -355,3 +356,10 @@ quiet_noted {site} {kept} {panel} {done} {taken} {decide} stands answer may quie
 pub no_alarm : (heard : Heard) → (heard ≡ Quiet) ⊎ (heard ≡ Silent) → is_alarm heard ≡ false
 no_alarm heard (inl quiet) = ap is_alarm quiet
 no_alarm heard (inr silent) = ap is_alarm silent
+
+-- what is kept of the other points stays
+pub others_noted : (points : List PointWatch) (place : ℕ) (heard : Heard) (counted : Bool) (floor stamp : Tick) (watch : PointWatch)
+    → watch ≡ get_or points place watch → (next : List PointWatch) → NotesPoint place heard counted floor stamp points next → (k : ℕ) → k ≢ place
+    → slice_get next k ≡ slice_get points k
+others_noted points place heard counted floor stamp watch read next notes k apart =
+    ap (λ xs. slice_get xs k) (notes watch read) ∙ slice_get-set_other points place k (point_noted heard counted floor stamp watch) apart

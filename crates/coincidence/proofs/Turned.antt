@@ -1,5 +1,5 @@
 -- Answers are taken one list after another.
-use Rattle.std.proofs.Common.{◌≡◌, ℕ, suc, ◌+◌, ◌≤◌, List, [], ◌∷◌, ◌++◌, length, slice_get, refl, sym, ◌∙◌, ap, subst, arith, append_assoc, append-nil, length-append}
+use Rattle.std.proofs.Common.{◌≡◌, ℕ, suc, ◌+◌, ◌≤◌, List, [], ◌∷◌, ◌++◌, length, refl, sym, ◌∙◌, ap, subst, arith, append_assoc, append-nil, length-append}
 use Rattle.tick_units.specs.Lane.{HasRoom, LaneState, with_put}
 use Rattle.site_types.specs.declared.site.Site.{Site}
 use Rattle.site_types.specs.declared.answer.Answer.{Answer}
@@ -7,12 +7,11 @@ use Rattle.site_types.specs.declared.retained.Retained.{Retained}
 use Rattle.site_types.specs.Done.{Done}
 use Rattle.coincidence_rules.specs.declared.finding.Finding.{Finding}
 use Rattle.coincidence_rules.specs.Findings.{finding_of, findings_after}
-use Rattle.coincidence_rules.specs.Applied.{TellsLast}
 use Rattle.coincidence_rules.specs.InOrder.{AreInOrder}
 use Rattle.coincidence_rules.proofs.Lists.{get_left, get_right}
 use Rattle.coincidence.specs.declared.decide.Decide.{Decide}
 use Rattle.coincidence.specs.Changes.{FindsNext, PutsFindings, TakesAnswers}
-use Rattle.coincidence.specs.Stands.{CanTake, DecidesFor, resets}
+use Rattle.coincidence.specs.Stands.{CanTake, DecidesFor}
 use Rattle.coincidence.specs.Premises.{MayTake}
 
 in_order_front : (front behind : List Answer) → AreInOrder (front ++ behind) → AreInOrder front
@@ -75,12 +74,12 @@ takes_none decide site kept panel done taken stands may = subst (λ xs. DecidesF
 pub puts_none : (decide : Decide) (l : LaneState Finding) → PutsFindings decide [] l l
 puts_none decide l site kept panel done taken stands may = put_none l
 
-takes_both : (a b c : Decide) (xs ys : List Answer) → TakesAnswers a xs b → TakesAnswers b ys c → TakesAnswers a (xs ++ ys) c
+pub takes_both : (a b c : Decide) (xs ys : List Answer) → TakesAnswers a xs b → TakesAnswers b ys c → TakesAnswers a (xs ++ ys) c
 takes_both a b c xs ys first second site kept panel done taken stands may =
     subst (λ zs. DecidesFor site kept panel done zs c) (append_assoc taken xs ys)
     (second site kept panel done (taken ++ xs) (first site kept panel done taken stands (may_front xs ys may)) (may_behind xs ys may))
 
-puts_both : (a b : Decide) (xs ys : List Answer) (l m n : LaneState Finding) → TakesAnswers a xs b → PutsFindings a xs l m → PutsFindings b ys m n
+pub puts_both : (a b : Decide) (xs ys : List Answer) (l m n : LaneState Finding) → TakesAnswers a xs b → PutsFindings a xs l m → PutsFindings b ys m n
     → PutsFindings a (xs ++ ys) l n
 puts_both a b xs ys l m n takes first second site kept panel done taken stands may =
     let front = may_front xs ys may in
@@ -144,33 +143,6 @@ held_behind decide xs l m held all can puts room fits =
     let items = room.0 in
     let ever = room.1 in
     (omega (arith, count, size, capacity, items, fits), omega (arith, count, put, ever, fits))
-
--- what a turn took of its lane is no part of what it stands for
-module _ (a b : Decide) (panels : b.panel ≡ a.panel) (points : b.points ≡ a.points) (zones : b.zones ≡ a.zones) (reset : b.reset ≡ a.reset) where
-  pub stands_same : {site : Site} {kept : Retained} {panel : ℕ} {done : List Done} {taken : List Answer} → DecidesFor site kept panel done taken a
-      → DecidesFor site kept panel done taken b
-  stands_same {panel = panel} {done = done} h = record {
-    wired = h.wired;
-    at = panels ∙ h.at;
-    point_count = ap length points ∙ h.point_count;
-    zone_count = ap (λ zs. length zs.items) zones ∙ h.zone_count;
-    points = λ place watch point there. h.points place watch point (ap (λ ps. slice_get ps place) (sym points) ∙ there);
-    zones = λ place watch zone there. h.zones place watch zone (ap (λ zs. slice_get zs.items place) (sym zones) ∙ there);
-    reset = subst (TellsLast (resets panel) done) (sym reset) h.reset;
-    order = h.order;
-    own = h.own;
-  }
-
-  pub can_same : (xs : List Answer) → CanTake a xs → CanTake b xs
-  can_same xs can = record {
-    site = can.site;
-    kept = can.kept;
-    panel = can.panel;
-    done = can.done;
-    taken = can.taken;
-    stands = stands_same can.stands;
-    may = can.may;
-  }
 
 -- a part of the answers is taken next, behind those before it
 module _ (old now : Decide) (all before part more behind : List Answer) (is_more : more ≡ before ++ part) (parts : all ≡ more ++ behind) where

@@ -1,8 +1,12 @@
 -- What taking answers and applying an operation make of the part that decides, whatever it stood for.
-use Rattle.std.specs.Prelude.{◌≡◌, ◌<◌, ℕ, Bool, List, [], ◌∷◌, ◌++◌, slice_index_or, slice_set}
+use Rattle.std.specs.Prelude.{◌≡◌, ◌≢◌, ◌<◌, ℕ, Bool, List, [], ◌∷◌, ◌++◌, slice_get, slice_index_or, slice_set}
 use Rattle.tick_units.specs.declared.tick.Tick.{Tick}
 use Rattle.site_types.specs.declared.heard.Heard.{Heard}
-use Rattle.tick_units.specs.Lane.{LaneState, with_put}
+use Rattle.tick_units.specs.Lane.{HasRoom, LaneState, with_put}
+use Rattle.answer_lanes.specs.declared.answer_group.AnswerGroup.{AnswerGroup}
+use Rattle.answer_lanes.specs.declared.run.Run.{Run}
+use Rattle.answer_lanes.specs.Points.{answer_at}
+use Rattle.answer_lanes.specs.Runs.{HasShortCount, items_of}
 use Rattle.site_types.specs.declared.answer.Answer.{Answer}
 use Rattle.site_types.specs.declared.operation.Operation.{Operation}
 use Rattle.site_types.specs.declared.retained.Retained.{Retained}
@@ -16,7 +20,7 @@ use Rattle.coincidence.specs.declared.point_watch.PointWatch.{PointWatch}
 use Rattle.coincidence.specs.Observations.{Judges}
 use Rattle.coincidence.specs.Parts.{point_noted, switch_after}
 use Rattle.coincidence.specs.Premises.{MayTake, MayApply}
-use Rattle.coincidence.specs.Stands.{DecidesFor}
+use Rattle.coincidence.specs.Stands.{CanTake, DecidesFor}
 
 -- what is kept of points after an answer of one of them, with whether it counts and the floor before it
 abbrev pub NotesPoint : ℕ → Heard → Bool → Tick → Tick → List PointWatch → List PointWatch → Type 0
@@ -34,6 +38,10 @@ SwitchesPoint place off at old points =
 abbrev pub IsSwitchedBefore : ℕ → ℕ → List PointWatch → Type 0
 IsSwitchedBefore place tick points =
     (watch : PointWatch) → watch ≡ slice_index_or points place watch → watch.off.since.0 < tick
+
+-- what is kept of the points is the same but for one of them
+abbrev pub KeepsOthers : ℕ → Decide → Decide → Type 0
+KeepsOthers place old decide = (k : ℕ) → k ≢ place → slice_get decide.points k ≡ slice_get old.points k
 
 -- these answers are taken after those before
 abbrev pub TakesAnswers : Decide → List Answer → Decide → Type 0
@@ -56,6 +64,18 @@ PutsFindings old answers lane findings =
     (site : Site) (kept : Retained) (panel : ℕ) (done : List Done) (taken : List Answer)
     → DecidesFor site kept panel done taken old → MayTake site panel done taken answers
     → findings ≡ with_put lane (findings_after site kept panel done taken answers)
+
+-- the answers of a run may be taken, and there is room for their findings
+pub record CanTakeAnswerRun (decide : Decide) (run : Run AnswerGroup) (findings : LaneState Finding) : Type 0 where
+  pub short : HasShortCount run
+  pub room : HasRoom findings run.count
+  pub may : CanTake decide (items_of answer_at run)
+
+-- they are taken after those before, and one finding for each is put into the lane
+pub record TakesAnswerRun (old : Decide) (run : Run AnswerGroup) (lane : LaneState Finding) (decide : Decide)
+    (findings : LaneState Finding) : Type 0 where
+  pub taken : TakesAnswers old (items_of answer_at run) decide
+  pub put : PutsFindings old (items_of answer_at run) lane findings
 
 -- the finding is that of an answer that comes after those taken
 abbrev pub FindsNext : Decide → Answer → Finding → Type 0

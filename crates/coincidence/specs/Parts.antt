@@ -1,5 +1,5 @@
 -- What the parts that decide make of an answer or an operation.
-use Rattle.std.specs.Prelude.{ℕ, ◌+◌, Bool, false, Option, Some, None, ◌==◌, ◌&&◌, nat_lt, if◌then◌else◌}
+use Rattle.std.specs.Prelude.{◌≡◌, ℕ, ◌+◌, Bool, false, Option, Some, None, ◌==◌, ◌&&◌, nat_lt, if◌then◌else◌}
 use Rattle.std.specs.Option.{is_none}
 use Rattle.tick_units.specs.declared.tick.Tick.{Tick}
 use Rattle.tick_units.specs.declared.switch.Switch.{Switch}
@@ -57,6 +57,10 @@ silent_then _ n = 0
 abbrev pub point_noted : Heard → Bool → Tick → Tick → PointWatch → PointWatch
 point_noted heard counted floor stamp watch =
     record watch { silent = silent_then heard watch.silent; run = run_then counted floor.0 stamp watch.run }
+
+-- an answer leaves what is kept of its point as it is, whenever it comes
+abbrev pub StaysNoted : Heard → Bool → Tick → PointWatch → Type 0
+StaysNoted heard counted floor watch = (stamp : Tick) → point_noted heard counted floor stamp watch ≡ watch
 
 -- a point whose last answer was heard and didn't count
 abbrev pub is_at_rest : PointWatch → Bool

@@ -1,4 +1,4 @@
-ghost use Rattle.std.specs.Prelude.{◌≡◌, ◌<◌, ◌≤◌, ◌+◌, ◌==◌, ◌&&◌, ℕ, if◌then◌else◌, false, true};
+ghost use Rattle.std.specs.Prelude.{◌≡◌, ◌<◌, ◌≤◌, ◌+◌, ◌==◌, ◌&&◌, ℕ, if◌then◌else◌, false, nat_lt, true};
 ghost use Rattle.site_types.specs.Bits.{has_bit};
 ghost use Rattle.site_types.specs.Changes.{IsNumber};
 
@@ -21,11 +21,20 @@ pub fn two_bits(number: u8, on: bool, other: u8, also: bool) -> u32
     with_bit_32(with_bit_32(0, other - 1, also), number - 1, on)
 }
 
-/// Whether the first bits of a byte, so many, are set.
-pub fn has_first_bits(byte: u8, count: u8) -> bool
+/// So many first bits of a byte.
+pub fn first_bits(count: u8) -> u8
     requires { count ≤ 8 }
-    ensures { result ≡ true → (k : ℕ) → k < count → has_bit byte k ≡ true }
+    ensures { (k : ℕ) → has_bit result k ≡ nat_lt k count }
 {
-    let bits = ((1u16 << count) - 1) as u8;
-    byte & bits == bits
+    ((1u16 << count) - 1) as u8
+}
+
+/// The lowest bit of a byte that is set.
+pub fn lowest_bit(byte: u8) -> u8
+    requires { 0 < byte }
+    ensures within { result < 8 }
+    ensures set { has_bit byte result ≡ true }
+    ensures none { (k : ℕ) → k < result → has_bit byte k ≡ false }
+{
+    byte.trailing_zeros() as u8
 }

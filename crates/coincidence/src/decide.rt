@@ -1,19 +1,16 @@
-ghost use Rattle.std.specs.Prelude.{◌≡◌, ◌<◌, ◌≤◌, [], ◌∷◌, All, IfOk, false, length, true};
+ghost use Rattle.std.specs.Prelude.{◌≡◌, ◌<◌, ◌≤◌, [], ◌∷◌, IfOk, false, length, true};
 ghost use Rattle.site_types.specs.Valid.{IsValid};
 ghost use Rattle.tick_units.specs.Lane.{HasRoom, after_turn};
-ghost use Rattle.answer_lanes.specs.Points.{answer_at};
-ghost use Rattle.answer_lanes.specs.Runs.{HasShortCount, items_of};
 
-use crate::bits::{has_first_bits, one_bit, two_bits};
-use crate::gathering::gather;
+use crate::bits::{one_bit, two_bits};
 use crate::judgement::Judgement;
 use crate::observation::Observation;
 use crate::point_watch::PointWatch;
 use crate::point_watches::PointWatches;
-use crate::rules::{counts_unless, is_on, may_pair, plain_finding, plain_group};
+use crate::rules::{counts_unless, is_on, may_pair, plain_finding};
 use crate::watches::watch_zones;
 use crate::zone_watch::ZoneWatch;
-use answer_lanes::{AnswerGroup, FindingGroup, Lane, Run};
+use answer_lanes::{AnswerGroup, FindingGroup, Lane};
 use arrayvec::ArrayVec;
 use coincidence_rules::Finding;
 use site_types::{Answer, Heard, Item, Operation, Retained, Site, has_bit_8};
@@ -34,13 +31,12 @@ pub struct Decide {
     pub(crate) zones: Vec<ZoneWatch>,
     /// The last reset of the panel.
     pub(crate) reset: LastDone,
-    /// What the last turn took of its lane.
-    batch: ArrayVec<Run<AnswerGroup>, 32>,
 }
 
 impl Decide {
     ghost use Rattle.coincidence_rules.specs.Counted.{is_alarm, is_silent};
-    ghost use Rattle.coincidence.specs.Changes.{AppliesOperation, FindsNext, PutsFindings, TakesAnswers, TakesJudged};
+    ghost use Rattle.coincidence.specs.Changes.{AppliesOperation, FindsNext, KeepsOthers, PutsFindings, TakesAnswers};
+    ghost use Rattle.coincidence.specs.Changes.{TakesJudged};
     ghost use Rattle.coincidence.specs.Queries.{AreKeptOf, FindsJudged, FindsLast, ObservesJudged, TellsCounted};
     ghost use Rattle.coincidence.specs.Queries.{TellsFloor, TellsFloorOf};
     ghost use Rattle.coincidence.specs.Queries.{TellsJudgement};
@@ -60,7 +56,6 @@ impl Decide {
             points,
             zones,
             reset: LastDone::never(),
-            batch: ArrayVec::new(),
         })
     }
 
@@ -76,12 +71,18 @@ impl Decide {
         if answers.len() == 0 {
             return;
         }
-        self.batch.clear();
-        answers.take_turn(&mut self.batch);
-        for place in 0..self.batch.len() {
-            let run = self.batch.as_slice()[place];
-            self.take_run(&run, findings);
+        if answers.fits_turn() {
+            let (front, back) = answers.runs();
+            self.take_runs(front, findings);
+            if back.len() > 0 {
+                self.take_runs(back, findings);
+            }
+            answers.take_all();
+            return;
         }
+        let mut batch = ArrayVec::new();
+        answers.take_turn(&mut batch);
+        self.take_runs(batch.as_slice(), findings);
     }
 
     /// An operation of the panel was done in a tick, counted from 1. It is in force from the next tick on.
@@ -117,48 +118,6 @@ impl Decide {
         }
     }
 
-    // Takes the answers of a run, and puts one finding for each.
-    fn take_run(&mut self, run: &Run<AnswerGroup>, findings: &mut Lane<FindingGroup>)
-        requires run { HasShortCount run.now }
-        requires room { HasRoom findings.old run.now.count }
-        requires may { CanTake self.old (items_of answer_at run.now) }
-        ensures taken { TakesAnswers self.old (items_of answer_at run.now) self.new }
-        ensures findings { PutsFindings self.old (items_of answer_at run.now) findings.old
-            findings.new }
-        ensures batch { self.new.batch ≡ self.old.batch }
-    {
-        if self.is_unchanged_by(run) {
-            findings.put_run(Run {
-                first: plain_group(&run.first),
-                taken: run.taken,
-                count: run.count,
-            });
-            return;
-        }
-        let mut found = Run::none();
-        for place in run.taken..run.taken + run.count {
-            let finding = self.take(&run.item(place));
-            gather(finding, &mut found, findings);
-        }
-        findings.put_run(found);
-    }
-
-    // Whether the answers of a run, at most eight, leave what is kept of their points as it is.
-    fn is_unchanged_by(&self, run: &Run<AnswerGroup>) -> bool
-        ensures { result ≡ true → All (LeavesPoint self.now) (items_of answer_at run.now) }
-    {
-        let first = run.first.point as usize + run.taken as usize;
-        if run.count > 8 || first + run.count as usize > u16::MAX as usize {
-            return false;
-        }
-        let resting = self.points.resting_from(first);
-        let missing = self.points.missing_from(first);
-        has_first_bits(
-            run.first.matching_bits(run.taken, resting, missing),
-            run.count,
-        )
-    }
-
     // Whether an answer leaves what is kept of its point as it is.
     fn is_left_by(&self, answer: &Answer) -> bool
         ensures { result ≡ true → LeavesPoint self.now answer.now }
@@ -167,11 +126,12 @@ impl Decide {
     }
 
     // Takes an answer: what it means, by those taken up to it.
-    fn take(&mut self, answer: &Answer) -> Finding
+    #[inline(always)]
+    pub(crate) fn take(&mut self, answer: &Answer) -> Finding
         requires { CanTake self.old (answer.now ∷ []) }
         ensures taken { TakesAnswers self.old (answer.now ∷ []) self.new }
         ensures found { FindsNext self.old answer.now result }
-        ensures batch { self.new.batch ≡ self.old.batch }
+        ensures others { KeepsOthers answer.now.point self.old self.new }
     {
         match answer.heard {
             Heard::Alarm => self.take_alarm(answer),
@@ -185,7 +145,7 @@ impl Decide {
         requires quiet { is_alarm answer.now.heard ≡ false }
         ensures taken { TakesAnswers self.old (answer.now ∷ []) self.new }
         ensures found { FindsNext self.old answer.now result }
-        ensures batch { self.new.batch ≡ self.old.batch }
+        ensures others { KeepsOthers answer.now.point self.old self.new }
     {
         if self.is_left_by(answer) {
             return plain_finding(answer);
@@ -199,7 +159,7 @@ impl Decide {
         requires { CanTake self.old (answer.now ∷ []) }
         ensures taken { is_alarm answer.now.heard ≡ false
             → TakesAnswers self.old (answer.now ∷ []) self.new }
-        ensures batch { self.new.batch ≡ self.old.batch }
+        ensures others { KeepsOthers answer.now.point self.old self.new }
     {
         self.points.note(
             answer.point as usize,
@@ -222,11 +182,12 @@ impl Decide {
     }
 
     // Takes an alarm.
+    #[inline(always)]
     fn take_alarm(&mut self, answer: &Answer) -> Finding
         requires { CanTake self.old (answer.now ∷ []) }
         ensures taken { TakesAnswers self.old (answer.now ∷ []) self.new }
         ensures found { is_silent answer.now.heard ≡ false → FindsNext self.old answer.now result }
-        ensures batch { self.new.batch ≡ self.old.batch }
+        ensures others { KeepsOthers answer.now.point self.old self.new }
     {
         let point = self.points.at(answer.point as usize);
         let zone = &self.zones[point.zone as usize];
@@ -267,7 +228,7 @@ impl Decide {
     fn note_alarm(&mut self, answer: &Answer, judgement: &Judgement)
         requires { CanTake self.old (answer.now ∷ []) }
         ensures taken { TakesJudged self.old answer.now judgement.now self.new }
-        ensures batch { self.new.batch ≡ self.old.batch }
+        ensures others { KeepsOthers answer.now.point self.old self.new }
     {
         let place = answer.point as usize;
         let point = self.points.at(place);

@@ -1,11 +1,13 @@
 //! Findings gathered to runs on their way into the lane.
 
-ghost use Rattle.std.specs.Prelude.{◌≡◌, ◌∷◌, ◌++◌, [], length};
+ghost use Rattle.std.specs.Prelude.{◌≡◌, ◌∷◌, ◌+◌, ◌++◌, ◌<◌, [], length, ℕ};
 ghost use Rattle.answer_lanes.specs.Points.{finding_at};
 ghost use Rattle.answer_lanes.specs.Runs.{HasShortCount, items_of};
+ghost use Rattle.coincidence.specs.Resting.{IsFoundAt, IsPlainAt};
 ghost use Rattle.tick_units.specs.Lane.{HasRoom, with_put};
 
-use answer_lanes::{FindingGroup, Lane, Run};
+use crate::rules::plain_group;
+use answer_lanes::{AnswerGroup, FindingGroup, Lane, Run};
 use coincidence_rules::Finding;
 
 /// Puts a finding behind those of a run. Where it can't stand with them, the run goes into the lane and another begins.
@@ -21,4 +23,34 @@ pub fn gather(finding: Finding, found: &mut Run<FindingGroup>, findings: &mut La
     }
     findings.put_run(*found);
     *found = Run::one(finding);
+}
+
+/// Puts a finding behind those of a run within a group of eight, of which the findings that follow are plain. Where it
+/// can't stand with them, the run goes into the lane and another begins.
+pub fn gather_at(
+    finding: &Finding,
+    answers: &AnswerGroup,
+    found: &mut Run<FindingGroup>,
+    findings: &mut Lane<FindingGroup>,
+)
+    requires place { found.old.taken + found.old.count < 8 }
+    requires own { IsFoundAt (found.old.taken + found.old.count) answers.now finding.now }
+    requires room { HasRoom findings.old (length (items_of finding_at found.old)) }
+    ensures put { with_put findings.new (items_of finding_at found.new)
+        ≡ with_put findings.old (items_of finding_at found.old ++ finding.now ∷ []) }
+    ensures plain { (k : ℕ) → found.old.taken + found.old.count < k
+        → IsPlainAt k answers.now found.old.first → IsPlainAt k answers.now found.new.first }
+    ensures place { found.new.taken + found.new.count ≡ found.old.taken + found.old.count + 1 }
+{
+    let place = found.taken + found.count;
+    if !found.first.can_have(place, finding) {
+        findings.put_run(*found);
+        *found = Run {
+            first: plain_group(answers),
+            taken: place,
+            count: 0,
+        };
+    }
+    found.first.set(place, finding);
+    found.count += 1;
 }

@@ -17,8 +17,8 @@
 //! are enough, since a later one always serves where an earlier one would; of a point's own answers where its
 //! run of counted ones began; of an operation its tick and the value before. Quiet answers of points at rest,
 //! those whose last answer wasn't silent and didn't count, change nothing of it, and so do silent answers of points
-//! that are missing already: a run of up to eight of them is taken in one step. Each other answer costs the same,
-//! whatever the site. A turn takes no memory; only [`Decide::new`] does.
+//! that are missing already: of a run within a group of eight they are passed over in one step. Each other answer costs
+//! the same, whatever the site. A turn takes no memory; only [`Decide::new`] does.
 #![tactic(auto)]
 
 mod bits;
@@ -28,12 +28,12 @@ mod judgement;
 mod observation;
 mod partner_finding;
 mod partners;
-mod place_set;
 mod point_stamp;
 mod point_watch;
 mod point_watches;
 mod recent;
 mod rules;
+mod runs;
 mod watches;
 mod zone_watch;
 

@@ -1,5 +1,6 @@
-ghost use Rattle.std.specs.Prelude.{◌≡◌, ◌≤◌};
-ghost use Rattle.coincidence.specs.Parts.{is_at_rest, point_begun, point_noted, stays_missing, switch_after};
+ghost use Rattle.std.specs.Prelude.{◌≡◌, ◌≤◌, true};
+ghost use Rattle.coincidence.specs.Parts.{StaysNoted, is_at_rest, point_begun, point_noted, stays_missing};
+ghost use Rattle.coincidence.specs.Parts.{switch_after};
 ghost use Rattle.site_types.specs.Profile.{missing_askings};
 
 use site_types::{Heard, Point};
@@ -42,6 +43,17 @@ impl PointWatch {
     {
         self.silent = silent_after(self.silent, heard);
         self.run = run_after(self.run, counted, floor, stamp);
+    }
+
+    /// Whether its run goes on with an answer, so that this leaves it as it is.
+    pub fn stays_at(&self, heard: Heard, counted: bool, floor: Tick) -> bool
+        ensures { result ≡ true → StaysNoted heard counted floor self.now }
+    {
+        let goes_on = match self.run {
+            Some(first) => floor.0 < first.0,
+            None => false,
+        };
+        goes_on && counted && self.silent == 0 && matches!(heard, Heard::Alarm)
     }
 
     pub fn is_missing(&self) -> bool

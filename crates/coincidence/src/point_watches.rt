@@ -2,9 +2,9 @@ ghost use Rattle.std.specs.Prelude.{◌≡◌, ◌<◌, IfOk, List, length, map,
 ghost use Rattle.site_types.specs.Bits.{IsPlace};
 ghost use Rattle.site_types.specs.Changes.{IsPanelNumber};
 
-use crate::place_set::PlaceSet;
 use crate::point_watch::PointWatch;
 use crate::watches::watch_points;
+use answer_lanes::PlaceSet;
 use site_types::{Heard, Point, Retained};
 use std::alloc::Global;
 use std::marker::Model;
@@ -71,16 +71,26 @@ impl PointWatches {
         requires { place < length self.old }
         ensures { NotesPoint place heard counted floor stamp self.old self.new }
     {
-        let watch = &mut self.watches[place];
-        let ran = watch.run.is_some();
-        watch.note(heard, counted, floor, stamp);
-        if ran && watch.run.is_some() {
+        if self.at(place).stays_at(heard, counted, floor) {
             return;
         }
+        self.change(place, heard, counted, floor, stamp);
+    }
+
+    // Takes note of an answer that may change what is kept of its point. It stands apart, so that an alarm that goes on
+    // takes no more than the test before this call.
+    fn change(&mut self, place: usize, heard: Heard, counted: bool, floor: Tick, stamp: Tick)
+        requires { place < length self.old }
+        ensures { NotesPoint place heard counted floor stamp self.old self.new }
+    {
+        let watch = &mut self.watches[place];
+        let rested = watch.is_at_rest();
+        let stayed = watch.stays_missing();
+        watch.note(heard, counted, floor, stamp);
         let rests = watch.is_at_rest();
-        let missing = watch.stays_missing();
-        self.resting.set(place, rests);
-        self.missing.set(place, missing);
+        let stays = watch.stays_missing();
+        mark(&mut self.resting, place, rested, rests);
+        mark(&mut self.missing, place, stayed, stays);
     }
 
     /// A point was disabled or enabled in a tick.
@@ -115,5 +125,19 @@ impl PointWatches {
         ensures { TellsEight stays_missing self.now first result }
     {
         self.missing.eight_from(first)
+    }
+}
+
+ghost use Rattle.std.specs.Prelude.{◌*◌};
+ghost use Rattle.answer_lanes.specs.Places.{SetsPlace, has_place};
+
+// Puts a place into a set or takes it out, which was in it or not.
+fn mark(set: &mut PlaceSet, place: usize, was: bool, is: bool)
+    requires within { place < 8 * length set.old.bytes.items }
+    requires was { has_place set.old place ≡ was }
+    ensures { SetsPlace place is set.old set.new }
+{
+    if is != was {
+        set.set(place, is);
     }
 }

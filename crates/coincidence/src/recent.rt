@@ -25,10 +25,12 @@ impl Recent {
     pub fn note(&mut self, point: u16, stamp: Tick)
         ensures { self.new ≡ noted point stamp self.old }
     {
-        if let Some(seen) = self.latest {
-            if seen.point != point {
-                self.other = self.latest;
+        if let Some(seen) = &mut self.latest {
+            if seen.point == point {
+                seen.stamp = stamp;
+                return;
             }
+            self.other = self.latest;
         }
         self.latest = Some(PointStamp { point, stamp });
     }

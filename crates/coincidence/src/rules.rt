@@ -71,7 +71,8 @@ pub fn plain_finding(answer: &Answer) -> Finding
 
 /// What the answers of a group mean that tell of no zone, of points that are missing where they are silent.
 pub fn plain_group(answers: &AnswerGroup) -> FindingGroup
-    ensures { (k : ℕ) → finding_at result k ≡ plain_of (answer_at answers.now k) }
+    ensures plain { (k : ℕ) → finding_at result k ≡ plain_of (answer_at answers.now k) }
+    ensures none { result.telling ≡ 0 }
 {
     FindingGroup {
         stamp: answers.stamp,

@@ -10,6 +10,7 @@ pub mod NextNames
 pub mod ListItems
 pub mod EqualFaces
 pub mod SameBits
+pub mod Marks
 pub mod SameFaces
 pub mod SameSlots
 -- the line of an entry: its fields, its end, the entry that it spells

@@ -1,7 +1,8 @@
 -- Texts of lists of numbers and of groups.
 use Rattle.std.proofs.Common.{inl, inr, ◌≡◌, ◌≢◌, ◌⊎◌, ◌≤◌, ◌<◌, ◌∙◌, ◌++◌, ◌+◌, ◌==◌, length, take, drop, get_or}
 use Rattle.std.proofs.Common.{take-append-drop, ℕ, zero, suc, Bool, true, false, List, [], ◌∷◌, Option, Some, None}
-use Rattle.std.proofs.Common.{refl, sym, ap, map, filter, append_assoc, append-nil, arith, if◌then◌else◌}
+use Rattle.std.proofs.Common.{refl, sym, ap, map, filter, append_assoc, append-nil, arith, if◌then◌else◌, min, ◌-◌}
+use Rattle.std.specs.Prelude.{codes, decimal}
 use Rattle.std.specs.List.{flat_map, range_with_len}
 use Rattle.std.proofs.lemmas.List.{take_more}
 use Rattle.std.proofs.lemmas.Grind.{flat_map-append}
@@ -12,7 +13,8 @@ use Rattle.site_types.specs.declared.site.Site.{Site}
 use Rattle.face_text.specs.declared.face.Face.{Face}
 use Rattle.face_text.specs.declared.group.Group.{Group}
 use Rattle.face_text.specs.Changes.{change_of, changes_text, group_text, groups_text, numbers_text}
-use Rattle.face_text.specs.Slots.{Slot, Thing, Delays, Sounding, Count, is_named, last_of, line_of_thing, name_in, number_of_truth, numbers_in, page, shows, slots, slots_of, value_in}
+use Rattle.face_text.specs.Slots.{Slot, Thing, Delays, Sounding, Count, is_named, kind_of, last_of, line_of, line_of_thing, name_in}
+use Rattle.face_text.specs.Slots.{number_of_truth, numbers_in, on_word, page, shows, slots, slots_of, value_in, word_of}
 
 -- the texts of one more number
 pub range_more : {A : Type 0} (f : ℕ → List A) (n : ℕ) → flat_map f (range_with_len 1 (n + 1)) ≡ flat_map f (range_with_len 1 n) ++ f (n + 1)
@@ -23,6 +25,17 @@ range_more f n =
     same (n + 1) ∙ ap (flat_map f) ranges ∙ flat_map-append f (map (λ k. k) (range_with_len 1 n)) ((n + 1) ∷ [])
     ∙ ap (λ xs. flat_map f (map (λ k. k) (range_with_len 1 n)) ++ xs) (append-nil (f (n + 1))) ∙ ap (λ xs. xs ++ f (n + 1))
     (flat_map-map f (λ k. k) (range_with_len 1 n))
+
+-- numbers that have no text
+pub range_skip : {A : Type 0} (f : ℕ → List A) (from count : ℕ) → ((n : ℕ) → from < n → n ≤ from + count → f n ≡ [])
+    → flat_map f (range_with_len 1 (from + count)) ≡ flat_map f (range_with_len 1 from)
+range_skip f from zero none = let same : from + zero ≡ from = omega arith in ap (λ n. flat_map f (range_with_len 1 n)) same
+range_skip f from (suc count) none =
+    let next : from + suc count ≡ (from + count) + 1 = omega arith in
+    ap (λ n. flat_map f (range_with_len 1 n)) next ∙ range_more f (from + count)
+    ∙ ap (λ xs. flat_map f (range_with_len 1 (from + count)) ++ xs) (none ((from + count) + 1) (omega arith) (omega arith))
+    ∙ append-nil (flat_map f (range_with_len 1 (from + count)))
+    ∙ range_skip f from count (λ n past less. none n past (omega (arith, less)))
 
 -- the texts of the first numbers stand at the front of those of more
 front_by : {A : Type 0} (f : ℕ → List A) (m k : ℕ) → (k ≡ suc m) ⊎ (k ≢ suc m)
@@ -144,6 +157,81 @@ pub number_front : (site : Site) (before after : Face) (group : Group) (last pla
 number_front site before after group last place within =
     let front = range_front (λ number. change_of site before after (Thing group number)) last (place + 1) (omega (arith, within)) in
     (front.0, front.1 ∙ ap (λ xs. xs ++ front.0) (number_next site before after group place))
+
+-- numbers of which the same is shown have no line
+pub numbers_same : (site : Site) (before after : Face) (group : Group) (from next last : ℕ) → from ≤ next
+    → ((n : ℕ) → from < n → n ≤ next → n ≤ last → shows before group n ≡ shows after group n)
+    → numbers_text site before after group (min next last) ≡ numbers_text site before after group (min from last)
+numbers_same site before after group from next last le same =
+    let start = min from last in
+    let count = min next last - start in
+    let whole : start + count ≡ min next last = omega (arith, le) in
+    ap (numbers_text site before after group) (sym whole)
+    ∙ range_skip (λ n. change_of site before after (Thing group n)) start count
+    (λ n past less. same_value _ _ _ (ap number_of_truth (same n (omega (arith, le, past, less)) (omega (arith, le, past, less)) (omega (arith, le, past, less)))))
+
+-- from one number that changed to the next, from the first on, and to a write that fails
+pub numbers_step : (site : Site) (before after : Face) (group : Group) (next further last : ℕ) → 1 ≤ next → next ≤ last → next < further
+    → ((n : ℕ) → next < n → n < further → n ≤ last → shows before group n ≡ shows after group n)
+    → numbers_text site before after group (min (further - 1) last) ≡ numbers_text site before after group (min (next - 1) last)
+    ++ change_of site before after (Thing group next)
+numbers_step site before after group next further last low high more same =
+    let text = numbers_text site before after group in
+    let line = λ (n : ℕ). change_of site before after (Thing group n) in
+    let one : min next last ≡ (next - 1) + 1 = omega (arith, low, high) in
+    let place : (next - 1) + 1 ≡ next = omega (arith, low) in
+    let so_far : next - 1 ≡ min (next - 1) last = omega (arith, low, high) in
+    numbers_same site before after group next (further - 1) last (omega (arith, more))
+    (λ n past less within. same n past (omega (arith, more, less)) within)
+    ∙ ap text one ∙ number_next site before after group (next - 1) ∙ ap (λ k. text k ++ line ((next - 1) + 1)) so_far
+    ∙ ap (λ k. text (min (next - 1) last) ++ line k) place
+
+pub numbers_begin : (site : Site) (before after : Face) (group : Group) (next last : ℕ) → 1 ≤ next
+    → ((n : ℕ) → 1 ≤ n → n < next → n ≤ last → shows before group n ≡ shows after group n)
+    → numbers_text site before after group (min (next - 1) last) ≡ []
+numbers_begin site before after group next last low same =
+    let none : min 0 last ≡ 0 = omega arith in
+    numbers_same site before after group 0 (next - 1) last (omega arith)
+    (λ n past less within. same n (omega (arith, past)) (omega (arith, low, less)) within)
+    ∙ ap (numbers_text site before after group) none
+
+pub numbers_front : (site : Site) (before after : Face) (group : Group) (next last : ℕ) → 1 ≤ next → next ≤ last →
+    (rest : List ℕ)
+    × (numbers_text site before after group last ≡ (numbers_text site before after group (min (next - 1) last) ++ change_of site before after (Thing group next)) ++ rest)
+numbers_front site before after group next last low high =
+    let text = numbers_text site before after group in
+    let line = λ (n : ℕ). change_of site before after (Thing group n) in
+    let place : (next - 1) + 1 ≡ next = omega (arith, low) in
+    let so_far : next - 1 ≡ min (next - 1) last = omega (arith, low, high) in
+    let front = number_front site before after group last (next - 1) (omega (arith, low, high)) in (
+      front.0,
+      front.1 ∙ ap (λ k. (text k ++ line ((next - 1) + 1)) ++ front.0) so_far
+          ∙ ap (λ k. (text (min (next - 1) last) ++ line k) ++ front.0) place,
+    )
+
+-- a thing of which something else is shown is told by its line
+pub other_value : (x y : Bool) (line : List ℕ) → x ≢ y → (if number_of_truth x == number_of_truth y then [] else line) ≡ line
+other_value true true line apart = absurd (apart refl)
+other_value true false line apart = refl
+other_value false true line apart = refl
+other_value false false line apart = absurd (apart refl)
+
+-- the parts of the line of a thing
+pub line_parts : (site : Site) (before after : Face) (group : Group) (number : ℕ) (head name : List ℕ) (on : Bool)
+    → head ≡ decimal after.panel ++ codes " " ++ word_of group ++ kind_of group → shows before group number ≢ shows after group number
+    → Some name ≡ name_in site after.panel group number → on ≡ shows after group number
+    → head ++ name ++ on_word (number_of_truth on) ≡ change_of site before after (Thing group number)
+line_parts site before after group number head name on front apart named is =
+    ap (λ h. h ++ name ++ on_word (number_of_truth on)) front
+    ∙ ap (λ b. line_of_thing after.panel group (number_of_truth b) (Some name)) is
+    ∙ ap (line_of_thing after.panel group (number_of_truth (shows after group number))) named
+    ∙ sym (other_value (shows before group number) (shows after group number)
+    (line_of site after.panel (Thing group number) (number_of_truth (shows after group number))) apart)
+
+-- a thing that the site hasn't has no line
+pub no_parts : (site : Site) (before after : Face) (group : Group) (number : ℕ) → None ≡ name_in site after.panel group number
+    → change_of site before after (Thing group number) ≡ []
+no_parts site before after group number none = untold site before after group number (ap is_named (sym none))
 
 -- an item of a list that is another one
 pub item_next : {X A : Type 0} (f : X → List A) (xs ys : List X) (k : ℕ) (d : X) (text : List A) → ys ≡ xs → k < length xs

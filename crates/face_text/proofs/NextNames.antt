@@ -1,13 +1,17 @@
 -- Behind what a walk passed the same is found as in the whole list.
 use Rattle.std.proofs.Common.{◌≡◌, ◌∙◌, ◌+◌, ◌≤◌, ◌<◌, ◌&&◌, ◌==◌, ℕ, zero, suc, Bool, true, false, cond, List, [], ◌∷◌, Some, None, refl, sym, ap, drop, length, get_or, arith, inl, inr, subst}
-use Rattle.std.specs.Prelude.{◌⊎◌, nat_le, nat_lt, slice_get}
+use Rattle.std.specs.Prelude.{◌⊎◌, ◌||◌, if◌then◌else◌, nat_le, nat_lt, option_map, slice_get, take}
 use Rattle.site_types.specs.declared.site.Site.{Site}
 use Rattle.face_text.specs.declared.group.Group.{Group}
 use Rattle.face_text.specs.declared.group.Group.TheVariants.{Zones, Firsts, Missing, Unconfirmed, Outputs, Confirmed, PointsOff, ZonesOff, OutputsOff, Tests}
-use Rattle.face_text.specs.NextNames.{AreNamedBehind}
-use Rattle.std.specs.List.{find, position, position_or_len}
+use Rattle.face_text.specs.NextNames.{AreNamedBehind, without_first}
+use Rattle.face_text.specs.Slots.{name_in, output_name, point_name, zone_name}
+use Rattle.site_types.specs.declared.output.Output.{Output}
+use Rattle.site_types.specs.declared.point.Point.{Point}
+use Rattle.site_types.specs.declared.zone.Zone.{Zone}
+use Rattle.std.specs.List.{find, list_any, position, position_or_len}
 use Rattle.std.proofs.lemmas.Bool.{and_from, and_parts, eqb-true, cases_lt, le-leb, ltb-false}
-use Rattle.std.proofs.lemmas.Bool.Decides.{Decides-eqb}
+use Rattle.std.proofs.lemmas.Bool.Decides.{Decides-eqb, eqb_tells}
 use Rattle.std.proofs.lemmas.List.{drop-drop, drop_all}
 use Rattle.std.proofs.lemmas.List.Quantifiers.{position-Some}
 use Rattle.std.proofs.lemmas.Option.{same_Some, slice_get-get_or}
@@ -41,6 +45,10 @@ found_later : {X : Type 0} (test reach : X → Bool) (xs : List X) → ((x : X) 
     → find test (drop (position_or_len reach xs) xs) ≡ find test xs
 found_later test reach [] within = refl
 found_later test reach (x ∷ xs) within = found_past test reach x xs (reach x) (test x) refl refl (within x) (found_later test reach xs within)
+
+and_none : (b : Bool) → (b && false) ≡ false
+and_none true = refl
+and_none false = refl
 
 place_is : (inside : Bool) (first place : ℕ) → cond inside (Some first) None ≡ Some place → first ≡ place
 place_is true first place is = same_Some first place is
@@ -81,6 +89,33 @@ found_first key number_of left skipped number d at is =
     let passes : test x ≡ true = and_from (key x) (number_of x == number) of_key ((Decides-eqb (number_of x) number).1 is) in
     sym (found_later test reach left (reaches_more key number_of number number (omega arith)))
     ∙ ap (λ k. find test (drop k left)) first ∙ found_here test left skipped x (slice_get-get_or left skipped d there.0) passes
+
+one_past : {X : Type 0} (test : X → Bool) (xs : List X) (place : ℕ) (x : X) → slice_get xs place ≡ Some x → test x ≡ false
+    → find test (drop (suc place) xs) ≡ find test (drop place xs)
+one_past test [] place x at fails = cc
+one_past test (first ∷ rest) zero x at fails = let e : first ≡ x = same_Some first x at in rw (e, fails) refl
+one_past test (first ∷ rest) (suc place) x at fails = one_past test rest place x at fails
+
+has_other : {X : Type 0} (key : X → Bool) (number_of : X → ℕ) (from number : ℕ) (x : X) → number_of x ≡ from → from < number
+    → has_number key number_of number x ≡ false
+has_other key number_of from number x is less = elim (eqb_tells (number_of x) number) [
+  | inl same ↦ (let e = same.1 in absurd (omega (arith, is, less, e)))
+  | inr other ↦ ap (λ b. key x && b) other.0 ∙ and_none (key x)
+]
+
+-- greater numbers are found behind the thing of a number
+pub found_beyond : {X : Type 0} (key : X → Bool) (number_of : X → ℕ) (all left : List X) (count skipped from number : ℕ) (d : X)
+    → drop count all ≡ left → position (reaches key number_of from) left ≡ Some skipped → number_of (get_or left skipped d) ≡ from → from < number
+    → find (has_number key number_of number) (drop ((count + skipped) + 1) all) ≡ find (has_number key number_of number) (drop count all)
+found_beyond key number_of all left count skipped from number d is at this less =
+    let test = has_number key number_of number in
+    let x = get_or left skipped d in
+    let there = position-Some (reaches key number_of from) left skipped d at in
+    let past : (count + skipped) + 1 ≡ count + suc skipped = omega arith in
+    ap (λ k. find test (drop k all)) past ∙ ap (find test) (sym (drop-drop (suc skipped) count all)) ∙ ap (λ xs. find test (drop (suc skipped) xs)) is
+    ∙ one_past test left skipped x (slice_get-get_or left skipped d there.0) (has_other key number_of from number x this less)
+    ∙ ap (find test) (sym (ap (drop skipped) is) ∙ drop-drop skipped count all)
+    ∙ found_behind key number_of all left count skipped from number is at (omega (arith, less))
 
 -- where none could be found none is
 pub found_none : {X : Type 0} (key : X → Bool) (number_of : X → ℕ) (left : List X) (number : ℕ)
@@ -124,3 +159,103 @@ outputs_alike count site panel from group (inl is) named = subst (λ g. AreNamed
 outputs_alike count site panel from group (inr (inl is)) named = subst (λ g. AreNamedBehind count site panel g from) is named
 outputs_alike count site panel from group (inr (inr (inl is))) named = subst (λ g. AreNamedBehind count site panel g from) is named
 outputs_alike count site panel from group (inr (inr (inr is))) named = subst (λ g. AreNamedBehind count site panel g from) is named
+
+-- what is named behind some things from a number on is so from the next on
+pub named_later : (count : ℕ) (site : Site) (panel from : ℕ) (group : Group) → AreNamedBehind count site panel group from
+    → AreNamedBehind count site panel group (from + 1)
+named_later count site panel from group named number low = named number (omega (arith, low))
+
+-- where none of the first things passes a test, what passes it is found behind them
+pub found_after : {X : Type 0} (of_panel test : X → Bool) (xs : List X) (count : ℕ) → ((x : X) → test x ≡ true → of_panel x ≡ true)
+    → list_any of_panel (take count xs) ≡ false → find test (drop count xs) ≡ find test xs
+found_after of_panel test [] zero within none = refl
+found_after of_panel test [] (suc count) within none = refl
+found_after of_panel test (x ∷ xs) zero within none = refl
+found_after of_panel test (x ∷ xs) (suc count) within none = go (of_panel x) (test x) refl refl none (found_after of_panel test xs count within)
+  where
+    go : (is tests : Bool) → of_panel x ≡ is → test x ≡ tests → (is || list_any of_panel (take count xs)) ≡ false
+        → (list_any of_panel (take count xs) ≡ false → find test (drop count xs) ≡ find test xs)
+        → find test (drop count xs) ≡ (if tests then Some x else find test xs)
+    go true tests e f h later = cc
+    go false true e f h later = absurd (let g : true ≡ false = sym (within x f) ∙ e in cc)
+    go false false e f h later = later h
+
+-- the first things, and some behind them
+pub any_more : {X : Type 0} (test : X → Bool) (xs : List X) (count more : ℕ) → list_any test (take count xs) ≡ false
+    → list_any test (take more (drop count xs)) ≡ false → list_any test (take (count + more) xs) ≡ false
+any_more test [] count more first second = none_of_none (count + more)
+  where
+    none_of_none : (n : ℕ) → list_any test (take n []) ≡ false
+    none_of_none zero = refl
+    none_of_none (suc n) = refl
+any_more test (x ∷ xs) zero more first second = let same : 0 + more ≡ more = omega arith in ap (λ n. list_any test (take n (x ∷ xs))) same ∙ second
+any_more test (x ∷ xs) (suc count) more first second =
+    let next : suc count + more ≡ suc (count + more) = omega arith in
+    ap (λ n. list_any test (take n (x ∷ xs))) next ∙ go (test x) first (λ none. any_more test xs count more none second)
+  where
+    go : (b : Bool) → (b || list_any test (take count xs)) ≡ false
+        → (list_any test (take count xs) ≡ false → list_any test (take (count + more) xs) ≡ false)
+        → (b || list_any test (take (count + more) xs)) ≡ false
+    go true h later = cc
+    go false h later = later h
+
+-- ---- behind things of other panels
+
+zones_found : (site : Site) (count panel n : ℕ) → list_any (λ (zone : Zone). zone.panel == panel) (take count site.zones) ≡ false
+    → zone_name (without_first count site) panel n ≡ zone_name site panel n
+zones_found site count panel n none =
+    ap (option_map (λ (zone : Zone). zone.name.bytes))
+    (found_after (λ (zone : Zone). zone.panel == panel) (λ (zone : Zone). (zone.panel == panel) && (zone.number == n)) site.zones count
+    (λ zone h. (and_parts (zone.panel == panel) (zone.number == n) h).0) none)
+
+outputs_found : (site : Site) (count panel n : ℕ) → list_any (λ (output : Output). output.panel == panel) (take count site.outputs) ≡ false
+    → output_name (without_first count site) panel n ≡ output_name site panel n
+outputs_found site count panel n none =
+    ap (option_map (λ (output : Output). output.name.bytes))
+    (found_after (λ (output : Output). output.panel == panel) (λ (output : Output). (output.panel == panel) && (output.number == n)) site.outputs count
+    (λ output h. (and_parts (output.panel == panel) (output.number == n) h).0) none)
+
+points_found : (site : Site) (count panel line n : ℕ) → list_any (λ (point : Point). point.panel == panel) (take count site.points) ≡ false
+    → point_name (without_first count site) panel line n ≡ point_name site panel line n
+points_found site count panel line n none =
+    ap (option_map (λ (point : Point). point.name.bytes))
+    (found_after (λ (point : Point). point.panel == panel)
+    (λ (point : Point). (point.panel == panel) && (point.line == line) && (point.address == n)) site.points count
+    (λ point h. (and_parts (point.panel == panel) (point.line == line)
+    (and_parts ((point.panel == panel) && (point.line == line)) (point.address == n) h).0).0) none)
+
+module _ (count : ℕ) (site : Site) (panel : ℕ) (group : Group) where
+  pub behind_other_zones : (other : ℕ) (zones : List Zone) → (group ≡ Zones other) ⊎ (group ≡ Firsts other) → zones ≡ site.zones
+      → list_any (λ (zone : Zone). zone.panel == other) (take count zones) ≡ false → AreNamedBehind count site panel group 1
+  behind_other_zones other zones (inl is) same none n low =
+      rw is (zones_found site count other n (ap (λ xs. list_any (λ (zone : Zone). zone.panel == other) (take count xs)) (sym same) ∙ none))
+  behind_other_zones other zones (inr is) same none n low =
+      rw is (zones_found site count other n (ap (λ xs. list_any (λ (zone : Zone). zone.panel == other) (take count xs)) (sym same) ∙ none))
+
+  pub behind_zones : (zones : List Zone) → (group ≡ ZonesOff) ⊎ (group ≡ Tests) → zones ≡ site.zones
+      → list_any (λ (zone : Zone). zone.panel == panel) (take count zones) ≡ false → AreNamedBehind count site panel group 1
+  behind_zones zones (inl is) same none n low =
+      rw is (zones_found site count panel n (ap (λ xs. list_any (λ (zone : Zone). zone.panel == panel) (take count xs)) (sym same) ∙ none))
+  behind_zones zones (inr is) same none n low =
+      rw is (zones_found site count panel n (ap (λ xs. list_any (λ (zone : Zone). zone.panel == panel) (take count xs)) (sym same) ∙ none))
+
+  pub behind_points : (points : List Point) → ((line : ℕ) × (group ≡ Missing line)) ⊎ ((line : ℕ) × (group ≡ PointsOff line)) → points ≡ site.points
+      → list_any (λ (point : Point). point.panel == panel) (take count points) ≡ false → AreNamedBehind count site panel group 1
+  behind_points points (inl is) same none n low =
+      rw (is.1) (points_found site count panel is.0 n (ap (λ xs. list_any (λ (point : Point). point.panel == panel) (take count xs)) (sym same) ∙ none))
+  behind_points points (inr is) same none n low =
+      rw (is.1) (points_found site count panel is.0 n (ap (λ xs. list_any (λ (point : Point). point.panel == panel) (take count xs)) (sym same) ∙ none))
+
+  pub behind_outputs : (outputs : List Output)
+      → (group ≡ Unconfirmed) ⊎ ((group ≡ Outputs) ⊎ ((group ≡ Confirmed) ⊎ (group ≡ OutputsOff))) → outputs ≡ site.outputs
+      → list_any (λ (output : Output). output.panel == panel) (take count outputs) ≡ false → AreNamedBehind count site panel group 1
+  behind_outputs outputs is same none n low =
+      go is (outputs_found site count panel n (ap (λ xs. list_any (λ (output : Output). output.panel == panel) (take count xs)) (sym same) ∙ none))
+    where
+      go : (group ≡ Unconfirmed) ⊎ ((group ≡ Outputs) ⊎ ((group ≡ Confirmed) ⊎ (group ≡ OutputsOff)))
+          → output_name (without_first count site) panel n ≡ output_name site panel n
+          → name_in (without_first count site) panel group n ≡ name_in site panel group n
+      go (inl e) found = rw e found
+      go (inr (inl e)) found = rw e found
+      go (inr (inr (inl e))) found = rw e found
+      go (inr (inr (inr e))) found = rw e found

@@ -42,7 +42,7 @@ rise_numbers group test low high first (suc count) above below =
     go true less more = (above, more)
     go false less more = less
 
-last_small : (group : Group) → last_of group ≤ 192
+pub last_small : (group : Group) → last_of group ≤ 192
 last_small (Zones place) = omega arith
 last_small (Firsts place) = omega arith
 last_small (Missing place) = omega arith

@@ -1,13 +1,13 @@
 //! The lines by which one face differs from another.
 
-ghost use Rattle.std.specs.Prelude.{◌≡◌, ◌≤◌, length, option_map, OnErr, OnOk, true};
+ghost use Rattle.std.specs.Prelude.{◌≡◌, ◌≤◌, ◌++◌, codes, decimal, length, option_map, OnErr, OnOk, true};
 ghost use Rattle.panel_edges.specs.Contents.{Grows, GrowsByFront};
 ghost use Rattle.panel_edges.specs.Faults.{HasCause};
 ghost use Rattle.face_text.specs.Changes.{changes_text};
 ghost use Rattle.face_text.specs.Holding.{Puts};
 ghost use Rattle.face_text.specs.Slots.{buzzer_line as line_of_buzzer, counter_line as line_of_counter};
-ghost use Rattle.face_text.specs.Slots.{delays_line as line_of_delays, line_of_thing, number_of_buzzer};
-ghost use Rattle.face_text.specs.Slots.{number_of_truth};
+ghost use Rattle.face_text.specs.Slots.{delays_line as line_of_delays, kind_of, line_of_thing, number_of_buzzer};
+ghost use Rattle.face_text.specs.Slots.{number_of_truth, on_word as word_of_on, word_of};
 
 use crate::face::Face;
 use crate::face_pair::FacePair;
@@ -81,6 +81,20 @@ fn is_same_face(before: &Face, after: &Face) -> bool
     before == after
 }
 
+/// How the lines of a group on the page of a panel begin.
+pub fn line_head(panel: u8, group: Group) -> ArrayString<32>
+    ensures text { result.bytes ≡ decimal panel ++ codes " " ++ word_of group ++ kind_of group }
+    ensures short { length result.bytes ≤ 28 }
+{
+    let mut digits = Buffer::new();
+    let mut head = ArrayString::new();
+    head.push_str(digits.format(panel));
+    head.push_str(" ");
+    head.push_str(group_word(group));
+    head.push_str(kind_word(group));
+    head
+}
+
 /// The line of a thing that has this name; nothing where the site has none.
 pub fn named_line(panel: u8, group: Group, name: &Option<Label>, on: bool) -> ArrayString<64>
     ensures text { result.bytes ≡ line_of_thing panel group (number_of_truth on)
@@ -89,15 +103,40 @@ pub fn named_line(panel: u8, group: Group, name: &Option<Label>, on: bool) -> Ar
 {
     let mut line = ArrayString::new();
     if let Some(name) = name {
-        let mut digits = Buffer::new();
-        line.push_str(digits.format(panel));
-        line.push_str(" ");
-        line.push_str(group_word(group));
-        line.push_str(kind_word(group));
+        line.push_str(line_head(panel, group).as_str());
         line.push_str(name.as_str());
         line.push_str(on_word(on));
     }
     line
+}
+
+/// Puts a line that begins so and names a thing behind what is held.
+///
+/// # Errors
+///
+/// At the first write that fails. Some front of what was held is written then.
+pub fn push_named<K: Sink>(
+    head: &ArrayString<32>,
+    name: &Label,
+    on: bool,
+    held: &mut Held,
+    out: &mut K,
+) -> Result<(), Failed>
+    ensures text { Puts held.old held.new (K.written out.old) (K.written out.new)
+        (head.now.bytes ++ name.now.bytes ++ word_of_on (number_of_truth on)) result }
+    ensures cause { HasCause (K.write_faults out.old) (K.write_faults out.new) result }
+    ensures left { K.left out.new ≡ K.left out.old }
+    ensures reads { K.read_faults out.new ≡ K.read_faults out.old }
+{
+    held.make_room(64, out)?;
+    held.append(head.as_str().as_bytes());
+    held.append(name.as_str().as_bytes());
+    if on {
+        held.append(b" on\n");
+    } else {
+        held.append(b" off\n");
+    }
+    Ok(())
 }
 
 /// The line that tells whether the delays of a panel are on.

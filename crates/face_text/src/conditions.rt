@@ -1,5 +1,5 @@
 /// The conditions of a panel, any of which stand together. A panel in none of them is quiescent.
-#[derive(Clone, Copy, Debug, PartialEq, Eq)]
+#[derive(Clone, Copy)]
 pub struct Conditions {
     /// One of its own zones is in alarm.
     pub fire: bool,

@@ -7,7 +7,7 @@ use crate::conditions::Conditions;
 use site_types::{Buzzer, FaultSet, PointSet};
 
 /// All that a panel shows.
-#[derive(Clone, Copy, Debug, PartialEq, Eq)]
+#[derive(Clone, Copy, PartialEq, Eq)]
 pub struct Face {
     pub panel: u8,
     /// Zones in alarm by panel, bit `number - 1`; of other panels those of the words that are kept.

@@ -1,4 +1,4 @@
-ghost use Rattle.std.specs.Prelude.{◌≡◌, ◌≤◌, ◌++◌, [], false, true, length, option_map, IfNone, IfSome, OnOk};
+ghost use Rattle.std.specs.Prelude.{◌≡◌, ◌≤◌, ◌+◌, ◌++◌, [], false, true, length, option_map, IfNone, IfSome, OnOk};
 ghost use Rattle.panel_edges.specs.Faults.{HasCause};
 ghost use Rattle.face_text.specs.Holding.{Puts};
 ghost use Rattle.face_text.specs.Lists.{begun_after, comma, is_in as belongs, item_of, items_in};
@@ -93,7 +93,7 @@ impl FaceItems<'_> {
         ensures begun { begun.new
             ≡ begun_after begun.old (item_of self.now.site.now self.now.face.now group number) }
         ensures passed { AreNamedBehind passed.new self.now.site.now self.now.face.now.panel group
-            number }
+            (number + 1) }
         ensures cause { HasCause (K.write_faults out.old) (K.write_faults out.new) result }
         ensures left { K.left out.new ≡ K.left out.old }
         ensures reads { K.read_faults out.new ≡ K.read_faults out.old }
@@ -127,7 +127,7 @@ impl FaceItems<'_> {
         ensures none { IfNone result
             (item_of self.now.site.now self.now.face.now group number ≡ []) }
         ensures passed { AreNamedBehind passed.new self.now.site.now self.now.face.now.panel group
-            number }
+            (number + 1) }
     {
         if !shows(self.face, group, number) {
             return None;
@@ -158,18 +158,21 @@ fn is_in(list: FaceList, group: Group) -> bool
     ensures { result ≡ belongs list group }
 {
     match group {
-        Group::Zones(_) => list == FaceList::Zones,
-        Group::Firsts(_) => list == FaceList::Firsts,
+        Group::Zones(_) => matches!(list, FaceList::Zones),
+        Group::Firsts(_) => matches!(list, FaceList::Firsts),
         Group::Missing(_)
         | Group::Broken
         | Group::Shorted
         | Group::Supplies
         | Group::Silent
         | Group::Links
-        | Group::Unconfirmed => list == FaceList::Faults,
-        Group::Outputs => list == FaceList::Outputs,
+        | Group::Unconfirmed => matches!(list, FaceList::Faults),
+        Group::Outputs => matches!(list, FaceList::Outputs),
         Group::Confirmed => false,
-        Group::PointsOff(_) | Group::ZonesOff | Group::OutputsOff => list == FaceList::Disabled,
-        Group::Tests => list == FaceList::Tests,
+        Group::PointsOff(_) | Group::ZonesOff | Group::OutputsOff => matches!(
+            list,
+            FaceList::Disabled
+        ),
+        Group::Tests => matches!(list, FaceList::Tests),
     }
 }

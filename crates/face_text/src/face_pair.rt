@@ -1,17 +1,19 @@
-ghost use Rattle.std.specs.Prelude.{◌≡◌, ◌≤◌, [], ◌∷◌, length};
+ghost use Rattle.std.specs.Prelude.{◌≡◌, ◌≢◌, ◌≤◌, ◌+◌, [], ◌∷◌, ◌++◌, codes, decimal, length};
 ghost use Rattle.std.specs.List.{flat_map};
 ghost use Rattle.panel_edges.specs.Faults.{HasCause};
 ghost use Rattle.face_text.specs.Changes.{change_of, group_text, groups_text, numbers_text};
 ghost use Rattle.face_text.specs.Holding.{Puts};
 ghost use Rattle.face_text.specs.NextNames.{AreNamedBehind};
-ghost use Rattle.face_text.specs.Slots.{Thing, Delays, Sounding, Count, HasPlace, last_of, page as page_of_panel};
+ghost use Rattle.face_text.specs.Slots.{Thing, Delays, Sounding, Count, HasPlace, kind_of, last_of};
+ghost use Rattle.face_text.specs.Slots.{page as page_of_panel, shows as is_shown, word_of};
 
-use crate::change_lines::{buzzer_line, counter_line, delays_line, named_line};
+use crate::change_lines::{buzzer_line, counter_line, delays_line, line_head, push_named};
 use crate::face::Face;
+use crate::first_names::first_name;
 use crate::group::Group;
 use crate::held::Held;
-use crate::masks::{is_same, last_number, shows};
-use crate::next_change::next_change;
+use crate::masks::{is_same, last_number, masks_of, shows};
+use crate::next_change::{changed, next_number};
 use crate::next_names::next_name;
 use crate::page::page;
 use arrayvec::ArrayString;
@@ -73,24 +75,23 @@ impl FacePair<'_> {
         ensures left { K.left out.new ≡ K.left out.old }
         ensures reads { K.read_faults out.new ≡ K.read_faults out.old }
     {
-        let mut next = 1;
-        let mut passed = 0;
-        for place in 0..last_number(group) {
-            let number = place + 1;
-            if next <= number {
-                next = next_change(self.before, self.after, group, number);
-            }
-            if next <= number {
-                self.push_number(group, number, &mut passed, held, out)?;
-            }
+        let marks = changed(&masks_of(self.before, group), &masks_of(self.after, group));
+        let head = line_head(self.after.panel, group);
+        let last = last_number(group);
+        let mut passed = first_name(self.site, self.after.panel, group);
+        let mut next = next_number(&marks, 1);
+        while next <= last {
+            self.push_number(group, &head, next, &mut passed, held, out)?;
+            next = next_number(&marks, next + 1);
         }
         Ok(())
     }
 
-    // The line of a thing, where it changed, with what is passed of the site's list of such things.
+    // The line of a thing that changed, with what is passed of the site's list of such things.
     fn push_number<K: Sink>(
         &self,
         group: Group,
+        head: &ArrayString<32>,
         number: u8,
         passed: &mut usize,
         held: &mut Held,
@@ -98,25 +99,28 @@ impl FacePair<'_> {
     ) -> Result<(), Failed>
         requires group { HasPlace group }
         requires number { (1 ≤ number) × (number ≤ last_of group) }
+        requires head { head.now.bytes ≡ decimal self.now.after.now.panel ++ codes " "
+            ++ word_of group ++ kind_of group }
+        requires changed { is_shown self.now.before.now group number
+            ≢ is_shown self.now.after.now group number }
         requires passed { AreNamedBehind passed.old self.now.site.now self.now.after.now.panel group
             number }
         ensures text { Puts held.old held.new (K.written out.old) (K.written out.new)
             (change_of self.now.site.now self.now.before.now self.now.after.now
             (Thing group number)) result }
         ensures passed { AreNamedBehind passed.new self.now.site.now self.now.after.now.panel group
-            number }
+            (number + 1) }
         ensures cause { HasCause (K.write_faults out.old) (K.write_faults out.new) result }
         ensures left { K.left out.new ≡ K.left out.old }
         ensures reads { K.read_faults out.new ≡ K.read_faults out.old }
     {
-        let on = shows(self.after, group, number);
-        if shows(self.before, group, number) == on {
-            return Ok(());
+        match next_name(self.site, self.after.panel, group, number, passed) {
+            Some(name) => {
+                let on = shows(self.after, group, number);
+                push_named(head, &name, on, held, out)
+            }
+            None => Ok(()),
         }
-        let panel = self.after.panel;
-        let name = next_name(self.site, panel, group, number, passed);
-        let line = named_line(panel, group, &name, on);
-        held.push(line.as_str().as_bytes(), out)
     }
 
     /// Puts the lines of delays, buzzer and counter behind what is held.

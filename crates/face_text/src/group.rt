@@ -1,6 +1,6 @@
 /// A group of lines that go by number: those of one kind of thing, of zones those of one panel, of points
 /// those of one loop.
-#[derive(Clone, Copy, Debug, PartialEq, Eq)]
+#[derive(Clone, Copy)]
 pub enum Group {
     /// Zones of a panel in alarm.
     Zones(u8),

@@ -1,4 +1,4 @@
-ghost use Rattle.std.specs.Prelude.{◌≡◌, ◌≤◌, ◌++◌, [], length, OnErr, OnOk};
+ghost use Rattle.std.specs.Prelude.{◌≡◌, ◌≤◌, ◌+◌, ◌++◌, [], length, OnErr, OnOk};
 ghost use Rattle.panel_edges.specs.Contents.{Grows, GrowsByFront};
 ghost use Rattle.panel_edges.specs.Faults.{HasCause};
 ghost use Rattle.face_text.specs.Holding.{Puts};
@@ -42,11 +42,33 @@ impl Held {
         ensures left { K.left out.new ≡ K.left out.old }
         ensures reads { K.read_faults out.new ≡ K.read_faults out.old }
     {
-        if self.bytes.len() + line.len() > 1024 {
-            self.flush(out)?;
-        }
-        let _fits = self.bytes.try_extend_from_slice(line);
+        self.make_room(line.len(), out)?;
+        self.append(line);
         Ok(())
+    }
+
+    /// Writes what is held where there is no room for so many bytes more.
+    pub(crate) fn make_room<K: Sink>(&mut self, count: usize, out: &mut K) -> Result<(), Failed>
+        requires { count ≤ 1024 }
+        ensures text { Puts self.old self.new (K.written out.old) (K.written out.new) [] result }
+        ensures room { OnOk result (length self.new + count ≤ 1024) }
+        ensures cause { HasCause (K.write_faults out.old) (K.write_faults out.new) result }
+        ensures left { K.left out.new ≡ K.left out.old }
+        ensures reads { K.read_faults out.new ≡ K.read_faults out.old }
+    {
+        if self.bytes.len() + count > 1024 {
+            self.flush(out)
+        } else {
+            Ok(())
+        }
+    }
+
+    /// Puts a piece for which there is room behind what is held.
+    pub(crate) fn append(&mut self, piece: &[u8])
+        requires { length self.old + length piece.now ≤ 1024 }
+        ensures { self.new ≡ self.old ++ piece.now }
+    {
+        let _fits = self.bytes.try_extend_from_slice(piece);
     }
 
     /// Writes what is held, in one piece.

@@ -36,6 +36,7 @@ mod face;
 mod face_items;
 mod face_list;
 mod face_pair;
+mod first_names;
 mod group;
 mod held;
 mod lists;

@@ -1,6 +1,7 @@
 //! What a face shows of a group, and whether two faces show the same.
 
-ghost use Rattle.std.specs.Prelude.{◌≡◌, ◌≤◌, ◌-◌, ℕ, [], ◌∷◌, true, false, slice_index_or};
+ghost use Rattle.std.specs.Prelude.{◌≡◌, ◌≤◌, ◌-◌, ℕ, [], ◌∷◌, true, false, slice_index, slice_index_or};
+ghost use Rattle.site_types.specs.Bits.{bit_of, half_of, has_bit};
 ghost use Rattle.face_text.specs.Slots.{HasPlace, last_of, shows as is_shown};
 
 use crate::face::Face;
@@ -31,6 +32,43 @@ pub fn shows(face: &Face, group: Group, number: u8) -> bool
         Group::OutputsOff => has_bit_32(face.outputs_off, bit),
         Group::Tests => has_bit_32(face.test, bit),
     }
+}
+
+/// The things of a group that a face shows, in two masks: number 1 is bit 0 of the first, number 97 bit 0 of the
+/// second.
+pub fn masks_of(face: &Face, group: Group) -> [u128; 2]
+    requires { HasPlace group }
+    ensures { (number : ℕ) → 1 ≤ number → number ≤ last_of group
+        → has_bit (slice_index result (half_of number)) (bit_of number)
+        ≡ is_shown face.now group number }
+{
+    let faults = &face.faults;
+    match group {
+        Group::Zones(panel) => one_mask(face.zones[panel as usize - 1]),
+        Group::Firsts(panel) => one_mask(face.firsts[panel as usize - 1]),
+        Group::Missing(line) => faults.missing.loops[line as usize - 1],
+        Group::Broken => one_mask(faults.broken as u32),
+        Group::Shorted => one_mask(faults.shorted as u32),
+        Group::Supplies => one_mask(faults.supply as u32),
+        Group::Silent => one_mask(faults.silent as u32),
+        Group::Links => one_mask(faults.links as u32),
+        Group::Unconfirmed => one_mask(faults.unconfirmed),
+        Group::Outputs => one_mask(face.outputs),
+        Group::Confirmed => one_mask(face.confirmed),
+        Group::PointsOff(line) => face.points_off.loops[line as usize - 1],
+        Group::ZonesOff => one_mask(face.zones_off),
+        Group::OutputsOff => one_mask(face.outputs_off),
+        Group::Tests => one_mask(face.test),
+    }
+}
+
+// The masks of a group whose numbers go up to 32.
+fn one_mask(mask: u32) -> [u128; 2]
+    ensures { (number : ℕ) → 1 ≤ number → number ≤ 32
+        → has_bit (slice_index result (half_of number)) (bit_of number)
+        ≡ has_bit mask (number - 1) }
+{
+    [mask as u128, 0]
 }
 
 /// Whether two faces have the same mask of a group.

@@ -4,7 +4,7 @@
 //! of the list. Where a panel's things stand in the order of their numbers the walk meets each, else the list is
 //! searched.
 
-ghost use Rattle.std.specs.Prelude.{◌≡◌, ◌&&◌, ◌==◌, drop, nat_le, option_map};
+ghost use Rattle.std.specs.Prelude.{◌≡◌, ◌&&◌, ◌==◌, ◌+◌, drop, nat_le, option_map};
 ghost use Rattle.std.specs.List.{position};
 ghost use Rattle.face_text.specs.declared.group.Group.TheVariants.{Missing, Outputs, Zones};
 ghost use Rattle.face_text.specs.NextNames.{AreNamedBehind};
@@ -17,6 +17,7 @@ use site_types::{Label, Output, Point, Site, Zone};
 
 /// How the page of a panel names the thing of a group with a number, as `name_of` answers it, where so many
 /// things of the list are passed.
+#[inline(always)]
 pub fn next_name(
     site: &Site,
     panel: u8,
@@ -26,7 +27,7 @@ pub fn next_name(
 ) -> Option<Label>
     requires { AreNamedBehind passed.old site.now panel group number }
     ensures name { option_map (λ label. label.bytes) result ≡ name_in site.now panel group number }
-    ensures passed { AreNamedBehind passed.new site.now panel group number }
+    ensures passed { AreNamedBehind passed.new site.now panel group (number + 1) }
 {
     match group {
         Group::Zones(other) | Group::Firsts(other) => next_zone(site, other, number, passed),
@@ -43,10 +44,11 @@ pub fn next_name(
     }
 }
 
+#[inline(always)]
 fn next_zone(site: &Site, panel: u8, number: u8, passed: &mut usize) -> Option<Label>
     requires { AreNamedBehind passed.old site.now panel (Zones panel) number }
     ensures name { option_map (λ label. label.bytes) result ≡ name_of_zone site.now panel number }
-    ensures passed { AreNamedBehind passed.new site.now panel (Zones panel) number }
+    ensures passed { AreNamedBehind passed.new site.now panel (Zones panel) (number + 1) }
 {
     let left = left_of(site.zones.as_slice(), *passed);
     let Some(skipped) = first_zone(left, panel, number) else {
@@ -55,16 +57,18 @@ fn next_zone(site: &Site, panel: u8, number: u8, passed: &mut usize) -> Option<L
     *passed += skipped;
     let zone = &left[skipped];
     if zone.number == number {
+        *passed += 1;
         return Some(zone.name);
     }
     zone_name(site, panel, number)
 }
 
+#[inline(always)]
 fn next_point(site: &Site, panel: u8, line: u8, address: u8, passed: &mut usize) -> Option<Label>
     requires { AreNamedBehind passed.old site.now panel (Missing line) address }
     ensures name { option_map (λ label. label.bytes) result
         ≡ name_of_point site.now panel line address }
-    ensures passed { AreNamedBehind passed.new site.now panel (Missing line) address }
+    ensures passed { AreNamedBehind passed.new site.now panel (Missing line) (address + 1) }
 {
     let left = left_of(site.points.as_slice(), *passed);
     let Some(skipped) = first_point(left, panel, line, address) else {
@@ -73,15 +77,17 @@ fn next_point(site: &Site, panel: u8, line: u8, address: u8, passed: &mut usize)
     *passed += skipped;
     let point = &left[skipped];
     if point.address == address {
+        *passed += 1;
         return Some(point.name);
     }
     point_name(site, panel, line, address)
 }
 
+#[inline(always)]
 fn next_output(site: &Site, panel: u8, number: u8, passed: &mut usize) -> Option<Label>
     requires { AreNamedBehind passed.old site.now panel Outputs number }
     ensures name { option_map (λ label. label.bytes) result ≡ name_of_output site.now panel number }
-    ensures passed { AreNamedBehind passed.new site.now panel Outputs number }
+    ensures passed { AreNamedBehind passed.new site.now panel Outputs (number + 1) }
 {
     let left = left_of(site.outputs.as_slice(), *passed);
     let Some(skipped) = first_output(left, panel, number) else {
@@ -90,6 +96,7 @@ fn next_output(site: &Site, panel: u8, number: u8, passed: &mut usize) -> Option
     *passed += skipped;
     let output = &left[skipped];
     if output.number == number {
+        *passed += 1;
         return Some(output.name);
     }
     output_name(site, panel, number)

@@ -1,7 +1,7 @@
 use crate::reply::Reply;
 
 /// The answer to the operation with a number.
-#[derive(Clone, Copy, Debug, Default, PartialEq, Eq)]
+#[derive(Clone, Copy, Default)]
 pub struct OpAnswer {
     pub number: u64,
     pub reply: Reply,

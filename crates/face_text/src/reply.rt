@@ -1,5 +1,5 @@
 /// What is answered to an operation that didn't find its panel busy.
-#[derive(Clone, Copy, Debug, Default, PartialEq, Eq)]
+#[derive(Clone, Copy, Default, PartialEq, Eq)]
 pub enum Reply {
     #[default]
     Done,

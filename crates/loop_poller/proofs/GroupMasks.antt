@@ -16,7 +16,7 @@ use Rattle.answer_lanes.specs.Runs.{items_of}
 use Rattle.loop_poller.specs.Asked.{heard_of}
 use Rattle.loop_poller.specs.declared.group.Group.{Group}
 use Rattle.loop_poller.specs.Groups.{IsWithin, group_answers, place_answer}
-use Rattle.loop_poller.specs.BitRows.{tells_nothing, tells_alarm}
+use Rattle.loop_poller.specs.PointSets.{tells_nothing, tells_alarm}
 use Rattle.loop_poller.proofs.Lanes.{room_left}
 
 pub same_map : {X : Type 0} (f g : ℕ → X) (a b n : ℕ) → ((i : ℕ) → i < n → f (a + i) ≡ g (b + i)) → map f (range_with_len a n) ≡ map g (range_with_len b n)
@@ -40,8 +40,8 @@ room_behind before now items n put few m room =
 
 -- the points of a group are told by the masks of their states
 module _ (tick : ℕ) (group : Group) (states : List PointState) (alarms silents : ℕ)
-    (alarm : (k : ℕ) → k < 8 → has_bit alarms k ≡ tells_alarm (slice_index_or states (group.first + k) Quiet))
-    (silent : (k : ℕ) → k < 8 → has_bit silents k ≡ tells_nothing (slice_index_or states (group.first + k) Quiet)) where
+    (alarm : (k : ℕ) → k < 8 → group.first + k < length states → has_bit alarms k ≡ tells_alarm (slice_index_or states (group.first + k) Quiet))
+    (silent : (k : ℕ) → k < 8 → group.first + k < length states → has_bit silents k ≡ tells_nothing (slice_index_or states (group.first + k) Quiet)) where
   abbrev pub told : Run AnswerGroup
   told = record {
     first = record { stamp = record { 0 = tick }; point = group.first; alarms = alarms; silents = silents };
@@ -55,25 +55,26 @@ module _ (tick : ℕ) (group : Group) (states : List PointState) (alarms silents
   heard_by_state Alarm = refl
   heard_by_state Gone = refl
 
-  heard_is : (k : ℕ) → k < 8 → heard_at alarms silents k ≡ heard_of (slice_index_or states (group.first + k) Quiet) true
-  heard_is k small =
+  heard_is : (k : ℕ) → k < 8 → group.first + k < length states → heard_at alarms silents k ≡ heard_of (slice_index_or states (group.first + k) Quiet) true
+  heard_is k small known =
       let state = slice_index_or states (group.first + k) Quiet in
-      ap (λ b. if b then HeardAlarm else if has_bit silents k then Silent else HeardQuiet) (alarm k small)
-      ∙ ap (λ b. if tells_alarm state then HeardAlarm else if b then Silent else HeardQuiet) (silent k small)
+      ap (λ b. if b then HeardAlarm else if has_bit silents k then Silent else HeardQuiet) (alarm k small known)
+      ∙ ap (λ b. if tells_alarm state then HeardAlarm else if b then Silent else HeardQuiet) (silent k small known)
       ∙ heard_by_state state
 
   abbrev part : List PointState
   part = take group.count (drop group.first states)
 
-  place_is : (k : ℕ) → k < group.count → answer_at told.first (0 + k) ≡ place_answer tick group.first (slice_index_or part (0 + k) Quiet) (0 + k)
-  place_is k small =
+  place_is : IsWithin group states → (k : ℕ) → k < group.count → answer_at told.first (0 + k) ≡ place_answer tick group.first (slice_index_or part (0 + k) Quiet) (0 + k)
+  place_is within k small =
       let few = group.few in
+      let all = within (omega (arith, small)) in
       let here : 0 + k ≡ k = omega arith in
       let read : slice_index_or part k Quiet ≡ slice_index_or states (group.first + k) Quiet =
       get_or-take group.count (drop group.first states) k Quiet small ∙ get_or-drop group.first states k Quiet in
       ap (λ i. answer_at told.first i) here
       ∙ ap (λ h. record { stamp = record { 0 = tick }; point = min (group.first + k) 65535; heard = h })
-      (heard_is k (omega (arith, small, few)) ∙ ap (λ s. heard_of s true) (sym read))
+      (heard_is k (omega (arith, small, few)) (omega (arith, small, all)) ∙ ap (λ s. heard_of s true) (sym read))
       ∙ ap (λ i. place_answer tick group.first (slice_index_or part i Quiet) i) (sym here)
 
   part_size : IsWithin group states → length part ≡ group.count
@@ -86,7 +87,7 @@ module _ (tick : ℕ) (group : Group) (states : List PointState) (alarms silents
   pub told_answers : IsWithin group states → items_of answer_at told ≡ group_answers tick group states
   told_answers within =
       let answer = λ (place : ℕ). place_answer tick group.first (slice_index_or part place Quiet) place in
-      same_map (answer_at told.first) answer 0 0 group.count place_is
+      same_map (answer_at told.first) answer 0 0 group.count (place_is within)
       ∙ ap (λ n. map answer (range_with_len 0 n)) (sym (part_size within))
 
   -- there are at most eight

@@ -10,6 +10,6 @@ pub mod Lanes
 -- groups of points that follow one another, on a cable with nothing wrong
 pub mod Sound
 pub mod FollowingPoints
-pub mod RowPlaces
+pub mod PointPlaces
 pub mod GroupMasks
 pub mod GroupAnswers

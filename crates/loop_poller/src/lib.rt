@@ -14,7 +14,6 @@
 //! [`Poller::turn`] looks at 32 addresses, whatever the site's size.
 #![tactic(auto)]
 
-mod bit_row;
 mod cables;
 mod group;
 mod groups;

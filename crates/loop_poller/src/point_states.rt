@@ -1,42 +1,43 @@
 ghost use Rattle.std.specs.Prelude.{◌≡◌, ◌<◌, ◌+◌, ℕ, IfOk, length, replicate, slice_index_or, slice_set};
 ghost use Rattle.site_types.specs.declared.point_state.PointState.TheVariants.{Quiet};
 ghost use Rattle.site_types.specs.Bits.{has_bit};
-ghost use Rattle.loop_poller.specs.BitRows.{tells_alarm, tells_nothing};
+ghost use Rattle.loop_poller.specs.PointSets.{tells_alarm, tells_nothing};
 
-use crate::bit_row::BitRow;
+use answer_lanes::PlaceSet;
 use site_types::PointState;
-use std::alloc::{AllocError, Global};
+use std::alloc::Global;
 use std::marker::Model;
+use tick_units::NoMemory;
 
 /// The states of the site's points, by place. Contracts see the list of them.
 #[derive(Drop)]
 pub struct PointStates {
     states: Vec<PointState>,
     /// The points in alarm.
-    alarms: BitRow,
-    gone: BitRow,
+    alarms: PlaceSet,
+    gone: PlaceSet,
 }
 
 impl Model for PointStates {
     ghost use Rattle.std.specs.Prelude.{List};
     ghost use Rattle.site_types.specs.declared.point_state.PointState.{PointState as State};
-    ghost use Rattle.loop_poller.specs.BitRows.{AreInRows};
+    ghost use Rattle.loop_poller.specs.PointSets.{AreInSets};
 
     ghost Value = { List State };
 
     ghost view = { λ s. s.states.items };
 
-    ghost invariant = { λ s. AreInRows s.states.items s.alarms.bytes.items s.gone.bytes.items };
+    ghost invariant = { λ s. AreInSets s.states.items s.alarms s.gone };
 }
 
 impl PointStates {
     /// So many points, all quiet.
-    pub fn new(alloc: Global, count: usize) -> Result<PointStates, AllocError>
+    pub fn new(alloc: Global, count: usize) -> Result<PointStates, NoMemory>
         ensures { IfOk result (λ states. states ≡ replicate count Quiet) }
     {
         let states = vec![in alloc; PointState::Quiet; count]?;
-        let alarms = BitRow::new(alloc, count)?;
-        let gone = BitRow::new(alloc, count)?;
+        let alarms = PlaceSet::first(alloc, count, false)?;
+        let gone = PlaceSet::first(alloc, count, false)?;
         Ok(PointStates {
             states,
             alarms,
@@ -48,8 +49,8 @@ impl PointStates {
         requires { place < length self.old }
         ensures { self.new ≡ slice_set self.old place state }
     {
-        self.alarms.set(place, is_in_alarm(state));
-        self.gone.set(place, is_gone(state));
+        self.alarms.set(place as usize, is_in_alarm(state));
+        self.gone.set(place as usize, is_gone(state));
         self.states[place as usize] = state;
     }
 
@@ -63,18 +64,18 @@ impl PointStates {
 
     /// Which of eight points are in alarm, from the one at this place on.
     pub fn alarms_from(&self, first: u16) -> u8
-        ensures { (k : ℕ) → k < 8
+        ensures { (k : ℕ) → k < 8 → first + k < length self.now
             → has_bit result k ≡ tells_alarm (slice_index_or self.now (first + k) Quiet) }
     {
-        self.alarms.eight_from(first)
+        self.alarms.eight_from(first as usize)
     }
 
     /// Which of eight points are gone, from the one at this place on.
     pub fn gone_from(&self, first: u16) -> u8
-        ensures { (k : ℕ) → k < 8
+        ensures { (k : ℕ) → k < 8 → first + k < length self.now
             → has_bit result k ≡ tells_nothing (slice_index_or self.now (first + k) Quiet) }
     {
-        self.gone.eight_from(first)
+        self.gone.eight_from(first as usize)
     }
 }
 

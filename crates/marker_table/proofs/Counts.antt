@@ -1,5 +1,5 @@
 -- A mask that has one input more counts one more where that is true.
-use Rattle.std.proofs.Common.{◌≡◌, ◌≢◌, ◌<◌, ◌+◌, ◌/◌, ◌%◌, ◌==◌, inl, inr, ℕ, zero, suc, Bool, true, false, refl, sym, ap, ◌∙◌, arith, min, bit_and, count_ones}
+use Rattle.std.proofs.Common.{◌≡◌, ◌≢◌, ◌<◌, ◌+◌, ◌/◌, ◌%◌, inl, inr, ℕ, zero, suc, Bool, true, false, refl, sym, subst, ap, ◌∙◌, arith, min, bit_and, count_ones}
 use Rattle.std.specs.Prelude.{slice_index_or}
 use Rattle.std.specs.Int.{bit_at, w32}
 use Rattle.std.proofs.lemmas.Bool.Decides.{eqb_tells}
@@ -7,12 +7,10 @@ use Rattle.std.proofs.lemmas.Nat.Bits.{bit_at_lowest, bit_at-suc, bit_at-lt, bit
 use lib.Count.{ones_step}
 use Rattle.site_types.specs.Bits.{has_bit, with_bit}
 use Rattle.site_types.proofs.Masks.{has_bit-zero}
-use Rattle.marker_table.specs.declared.facts.Facts.{Facts}
 use Rattle.marker_table.specs.declared.input.Input.{Input}
 use Rattle.marker_table.specs.declared.input.Input.TheVariants.{Zone as ZoneInput, Manual as ManualInput, Fault as FaultInput, Marker as MarkerInput}
 use Rattle.marker_table.specs.declared.mask.Mask.{Mask}
-use Rattle.marker_table.specs.declared.values.Values.{Values}
-use Rattle.marker_table.specs.Table.{AddsInput, input_bit, is_same_word, no_mask, one_if, input_word}
+use Rattle.marker_table.specs.Table.{AddsInput, input_bit, no_mask, one_if, input_word}
 
 -- ---- ones
 
@@ -76,52 +74,19 @@ bit_small (ManualInput place) = omega arith
 bit_small (FaultInput place) = omega arith
 bit_small (MarkerInput place) = omega arith
 
-number_is : (a b : ℕ) → (a == b) ≡ true → a ≡ b
-number_is a b same = elim (eqb_tells a b) [
-  | inl equal ↦ equal.1
-  | inr other ↦ absurd (let apart = other.0 in cc (same, apart))
-]
-
-one_word : (facts : Facts) (values : Values) (a b : Input) → is_same_word a b ≡ true → input_word facts values a ≡ input_word facts values b
-one_word facts values (ZoneInput a) (ZoneInput b) same = ap (λ n. slice_index_or facts.zones n 0) (number_is (a / 32) (b / 32) same)
-one_word facts values (ManualInput a) (ManualInput b) same = ap (λ n. slice_index_or facts.manual n 0) (number_is (a / 32) (b / 32) same)
-one_word facts values (FaultInput a) (FaultInput b) same = refl
-one_word facts values (MarkerInput a) (MarkerInput b) same = ap (λ n. slice_index_or values.words n 0) (number_is (a / 32) (b / 32) same)
-one_word facts values (ZoneInput a) (ManualInput b) same = cc
-one_word facts values (ZoneInput a) (FaultInput b) same = cc
-one_word facts values (ZoneInput a) (MarkerInput b) same = cc
-one_word facts values (ManualInput a) (ZoneInput b) same = cc
-one_word facts values (ManualInput a) (FaultInput b) same = cc
-one_word facts values (ManualInput a) (MarkerInput b) same = cc
-one_word facts values (FaultInput a) (ZoneInput b) same = cc
-one_word facts values (FaultInput a) (ManualInput b) same = cc
-one_word facts values (FaultInput a) (MarkerInput b) same = cc
-one_word facts values (MarkerInput a) (ZoneInput b) same = cc
-one_word facts values (MarkerInput a) (ManualInput b) same = cc
-one_word facts values (MarkerInput a) (FaultInput b) same = cc
-
-pub mask_with : (mask : Mask) (input : Input) (bit bits : ℕ) → bit ≡ input_bit input → is_same_word mask.input input ≡ true →
-    has_bit mask.bits bit ≡ false → bits ≡ with_bit w32 mask.bits bit true → AddsInput input mask (record { input = mask.input; bits = bits })
-mask_with mask input bit bits place same off is facts values =
-    let word = input_word facts values mask.input in
-    let at : has_bit word bit ≡ has_bit (input_word facts values input) (input_bit input) =
-    ap (has_bit word) place ∙ ap (λ w. has_bit w (input_bit input)) (one_word facts values mask.input input same) in
+pub mask_with : (mask : Mask) (input : Input) (bit bits : ℕ) → bit ≡ input_bit input → mask.word ≡ input_word input → input_word input < 32 →
+    has_bit mask.bits bit ≡ false → bits ≡ with_bit w32 mask.bits bit true → AddsInput input mask (record { word = mask.word; bits = bits })
+mask_with mask input bit bits place same within off is readings =
+    let word = slice_index_or readings.words (mask.word % 32) 0 in
+    let here : mask.word % 32 ≡ input_word input = omega (arith, same, within) in
+    let at : has_bit word bit ≡ has_bit (slice_index_or readings.words (input_word input) 0) (input_bit input) =
+    ap (has_bit word) place ∙ ap (λ n. has_bit (slice_index_or readings.words n 0) (input_bit input)) here in
     let small : bit < 32 = omega (arith, place, bit_small input) in
     ap (λ n. count_ones (bit_and n word)) is ∙ (counts mask.bits bit word small (bit_off mask.bits bit off) (has_bit word bit) refl ∙
     ap (λ b. count_ones (bit_and mask.bits word) + one_if b) at)
 
-same_as_itself : (n : ℕ) → (n == n) ≡ true
-same_as_itself n = elim (eqb_tells n n) [
-  | inl equal ↦ equal.0
-  | inr other ↦ absurd (other.1 refl)
-]
-
-own_word : (input : Input) → is_same_word input input ≡ true
-own_word (ZoneInput place) = same_as_itself (place / 32)
-own_word (ManualInput place) = same_as_itself (place / 32)
-own_word (FaultInput place) = refl
-own_word (MarkerInput place) = same_as_itself (place / 32)
-
-pub mask_of_one : (input : Input) (bit bits : ℕ) → bit ≡ input_bit input → bits ≡ with_bit w32 0 bit true
-    → AddsInput input (no_mask input) (record { input = input; bits = bits })
-mask_of_one input bit bits place is = mask_with (no_mask input) input bit bits place (own_word input) (has_bit-zero bit) is
+pub mask_of_one : (input : Input) (word bit bits : ℕ) → word ≡ input_word input → word < 32 → bit ≡ input_bit input → bits ≡ with_bit w32 0 bit true
+    → AddsInput input (no_mask input) (record { word = word; bits = bits })
+mask_of_one input word bit bits here within place is =
+    subst (λ w. AddsInput input (no_mask input) (record { word = w; bits = bits })) (sym here)
+    (mask_with (no_mask input) input bit bits place refl (omega (arith, here, within)) (has_bit-zero bit) is)

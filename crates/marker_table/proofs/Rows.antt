@@ -1,7 +1,7 @@
 -- What a row of the table makes of a marker is its equation.
 use Rattle.std.proofs.Common.{◌≡◌, ◌≤◌, ◌<◌, ◌+◌, ◌-◌, ◌*◌, ◌/◌, ◌%◌, ◌&&◌, ◌||◌, ◌++◌, ℕ, zero, suc, Bool, true}
 use Rattle.std.proofs.Common.{false, List, [], ◌∷◌, Some, None, map, length, take, get_or, refl, sym, ap, subst, ◌∙◌, arith, if◌then◌else◌}
-use Rattle.std.specs.Prelude.{slice_get, slice_index_or, slice_set, nat_le, count_by, sum_by}
+use Rattle.std.specs.Prelude.{slice_get, slice_index_or, slice_set, nat_le, nat_lt, count_by, sum_by}
 use Rattle.std.specs.List.{list_all, list_any}
 use Rattle.std.proofs.lemmas.Bool.Decides.{nat_tests}
 use Rattle.std.proofs.lemmas.List.Sums.{sum_by-cons, sum_by-set, sum_by_more, sum_by-take-le}
@@ -20,9 +20,9 @@ use Rattle.marker_table.specs.declared.input.Input.{Input}
 use Rattle.marker_table.specs.declared.mask.Mask.{Mask}
 use Rattle.marker_table.specs.declared.row.Row.{Row}
 use Rattle.marker_table.specs.declared.table.MarkerTable.{MarkerTable}
-use Rattle.marker_table.specs.declared.values.Values.{Values}
-use Rattle.marker_table.specs.Equations.{zone_bit, holds, is_met, equation, values_of}
-use Rattle.marker_table.specs.Table.{zone_index, input_of, reads, count_in, one_if, needed_of, AddsInputAt, CountsMore, IsRowOf, AreRowsOf, IsTableOf}
+use Rattle.marker_table.specs.declared.readings.Readings.{Readings}
+use Rattle.marker_table.specs.Equations.{zone_bit, holds, is_met, equation}
+use Rattle.marker_table.specs.Table.{zone_index, input_of, reads, count_in, value_read, one_if, HasFacts, needed_of, AddsInputAt, CountsMore, IsRowOf, AreRowsOf, IsTableOf}
 
 -- ---- what is read where a term looks
 
@@ -32,31 +32,49 @@ item_at [] k within = absurd (omega (arith, within))
 item_at (x ∷ xs) zero within = (x, refl)
 item_at (x ∷ xs) (suc k) within = item_at xs k (omega (arith, within))
 
-bit_there : (masks : List ℕ) (panel number : ℕ) → 1 ≤ panel → 1 ≤ number → number ≤ 32 →
-    has_bit (slice_index_or masks ((32 * (panel - 1) + (number - 1)) / 32) 0) ((32 * (panel - 1) + (number - 1)) % 32)
+-- the words of the zones of all panels, or of their call points, among some words
+abbrev AreWordsOf : List ℕ → ℕ → List ℕ → Type 0
+AreWordsOf words first masks = (k : ℕ) → k < 8 → slice_index_or words (first + k) 0 ≡ slice_index_or masks k 0
+
+bit_there : (words masks : List ℕ) (first panel number : ℕ) → AreWordsOf words first masks → 1 ≤ panel → panel ≤ 8 → 1 ≤ number → number ≤ 32 →
+    has_bit (slice_index_or words (first + (32 * (panel - 1) + (number - 1)) / 32) 0) ((32 * (panel - 1) + (number - 1)) % 32)
     ≡ has_bit (slice_index_or masks (panel - 1) 0) (number - 1)
-bit_there masks panel number p n m =
+bit_there words masks first panel number are p most n m =
     let row : (32 * (panel - 1) + (number - 1)) / 32 ≡ panel - 1 = omega arith in
     let bit : (32 * (panel - 1) + (number - 1)) % 32 ≡ number - 1 = omega arith in
-    rw (row, bit) refl
+    rw (row, bit) (ap (λ w. has_bit w (number - 1)) (are (panel - 1) (omega (arith, p, most))))
 
-zone_there : (site : Site) → IsValid site → (masks : List ℕ) (place : ℕ) → place < length site.zones →
-    has_bit (slice_index_or masks (zone_index (slice_get site.zones place) / 32) 0) (zone_index (slice_get site.zones place) % 32)
+zone_there : (site : Site) → IsValid site → (words masks : List ℕ) (first place : ℕ) → AreWordsOf words first masks → place < length site.zones →
+    has_bit (slice_index_or words (first + zone_index (slice_get site.zones place) / 32) 0) (zone_index (slice_get site.zones place) % 32)
     ≡ zone_bit masks (slice_get site.zones place)
-zone_there site valid masks place within =
+zone_there site valid words masks first place are within =
     let at = item_at site.zones place within in
     let n = zone_numbers site valid place at.0 at.1 in
-    rw at.1 (bit_there masks at.0.panel at.0.number n.0 n.2 n.3)
+    rw at.1 (bit_there words masks first at.0.panel at.0.number are n.0 n.1 n.2 n.3)
 
-pub reads_input : (site : Site) → IsValid site → (facts : Facts) (values : Values) (term : Term) → IsTerm site term →
-    reads facts values (input_of site term) ≡ holds site facts (values_of values) term
-reads_input site valid facts values (ZoneTerm place) is = zone_there site valid facts.zones place is
-reads_input site valid facts values (ManualTerm place) is = zone_there site valid facts.manual place is
-reads_input site valid facts values (FaultTerm panel) is =
+pub reads_input : (site : Site) → IsValid site → (facts : Facts) (readings : Readings) (values : ℕ → Bool) (term : Term) → HasFacts facts readings
+    → ((m : ℕ) → value_read readings m ≡ values m) → IsTerm site term →
+    reads readings (input_of site term) ≡ holds site facts values term
+reads_input site valid facts readings values (ZoneTerm place) has same is =
+    ap (λ k. has_bit (slice_index_or readings.words k 0) (zone_index (slice_get site.zones place) % 32)) (from_none (zone_index (slice_get site.zones place) / 32))
+    ∙ zone_there site valid readings.words facts.zones 0 place
+    (λ k small. ap (λ n. slice_index_or readings.words n 0) (sym (from_none k)) ∙ has.zones k small) is
+  where
+    from_none : (n : ℕ) → n ≡ 0 + n
+    from_none n = omega arith
+reads_input site valid facts readings values (ManualTerm place) has same is = zone_there site valid readings.words facts.manual 8 place has.manual is
+reads_input site valid facts readings values (FaultTerm panel) has same is =
     let most = valid.forms.panels.1 in
     let low : (panel - 1) % 32 ≡ panel - 1 = omega (arith, is, most) in
-    ap (has_bit facts.faults) low
-reads_input site valid facts values (MarkerTerm other) is = refl
+    ap (λ w. has_bit w ((panel - 1) % 32)) has.faults ∙ ap (has_bit facts.faults) low
+reads_input site valid facts readings values (MarkerTerm other) has same is =
+    let few = valid.forms.few_markers in
+    let small : nat_lt other 256 ≡ true = (let less : other < 256 = omega (arith, is, few) in grind (arith, nat_tests, less)) in
+    first (nat_lt other 256) (has_bit (slice_index_or readings.words (17 + other / 32) 0) (other % 32)) small ∙ same other
+  where
+    first : (a b : Bool) → a ≡ true → b ≡ (a && b)
+    first true b e = refl
+    first false b e = cc
 
 -- ---- enough of a list
 
@@ -124,11 +142,11 @@ met_early needed left count k counts masks mask known enough is less =
 -- one mask takes an input more
 pub replaced : (input : Input) (masks : List Mask) (place : ℕ) (more : Mask) → AddsInputAt input masks (place, more)
     → CountsMore input masks (slice_set masks place more)
-replaced input masks place more adds facts values =
+replaced input masks place more adds readings =
     let old = item_at masks place adds.0 in
-    let one = adds.1 old.0 old.1 facts values in
-    let moved = sum_by-set (count_in facts values) masks place more old.0 adds.0 in
-    let here = ap (count_in facts values) (get_or_from_slice_get masks place old.0 old.0 old.1) in
+    let one = adds.1 old.0 old.1 readings in
+    let moved = sum_by-set (count_in readings) masks place more old.0 adds.0 in
+    let here = ap (count_in readings) (get_or_from_slice_get masks place old.0 old.0 old.1) in
     omega (arith, one, moved, here)
 
 -- a row for each marker, and one more
@@ -158,23 +176,25 @@ none_at site (_ ∷ markers) [] m are at = absurd are
 none_at site (marker ∷ markers) (head ∷ rows) zero are at = cc
 none_at site (marker ∷ markers) (head ∷ rows) (suc m) are at = none_at site markers rows m are.1 at
 
-same_row : (site : Site) (facts : Facts) (values : Values) (m : ℕ) (row : Row) (marker : Marker) → IsValid site
+same_row : (site : Site) (facts : Facts) (readings : Readings) (values : ℕ → Bool) (m : ℕ) (row : Row) (marker : Marker) → IsValid site
+    → HasFacts facts readings → ((other : ℕ) → value_read readings other ≡ values other)
     → slice_get site.markers m ≡ Some marker → IsRowOf site marker row →
-    nat_le row.needed (sum_by (count_in facts values) row.masks) ≡ equation site facts (values_of values) m
-same_row site facts values m row marker valid at is =
-    let holds_here = holds site facts (values_of values) in
-    let counted = is.counted facts values ∙ count_map (input_of site) (reads facts values) holds_here marker.terms
-    (λ k term has. reads_input site valid facts values term (term_of_marker site valid m marker k term at has)) in
-    ap (λ n. nat_le n (sum_by (count_in facts values) row.masks)) is.needed ∙
+    nat_le row.needed (sum_by (count_in readings) row.masks) ≡ equation site facts values m
+same_row site facts readings values m row marker valid has same at is =
+    let holds_here = holds site facts values in
+    let counted = is.counted readings ∙ count_map (input_of site) (reads readings) holds_here marker.terms
+    (λ k term there. reads_input site valid facts readings values term has same (term_of_marker site valid m marker k term at there)) in
+    ap (λ n. nat_le n (sum_by (count_in readings) row.masks)) is.needed ∙
     (ap (nat_le (needed_of marker.combine (length marker.terms))) counted ∙
     (met_counted marker.combine holds_here marker.terms ∙ rw at refl))
 
-pub row_met : (site : Site) (table : MarkerTable) (facts : Facts) (values : Values) (m : ℕ) (row : Row) → IsTableOf site table
+pub row_met : (site : Site) (table : MarkerTable) (facts : Facts) (readings : Readings) (values : ℕ → Bool) (m : ℕ) (row : Row) → IsTableOf site table
+    → HasFacts facts readings → ((other : ℕ) → value_read readings other ≡ values other)
     → slice_get table.rows m ≡ Some row →
-    nat_le row.needed (sum_by (count_in facts values) row.masks) ≡ equation site facts (values_of values) m
-row_met site table facts values m row is at =
+    nat_le row.needed (sum_by (count_in readings) row.masks) ≡ equation site facts values m
+row_met site table facts readings values m row is has same at =
     let found = row_at site site.markers table.rows m row is.rows at in
-    same_row site facts values m row found.0 is.valid found.1 found.2
+    same_row site facts readings values m row found.0 is.valid has same found.1 found.2
 
 pub no_row : (site : Site) (table : MarkerTable) (facts : Facts) (values : ℕ → Bool) (m : ℕ) → IsTableOf site table → slice_get table.rows m ≡ None →
     false ≡ equation site facts values m

@@ -1,7 +1,7 @@
 -- What is kept of a site's markers.
-use Rattle.std.specs.Prelude.{◌≡◌, ◌<◌, ℕ, ◌+◌, ◌-◌, ◌*◌, ◌/◌, ◌%◌, ◌==◌, Bool, true, false, List, [], ◌∷◌, Option}
+use Rattle.std.specs.Prelude.{◌≡◌, ◌<◌, ℕ, ◌+◌, ◌-◌, ◌*◌, ◌/◌, ◌%◌, ◌&&◌, Bool, List, [], ◌∷◌, Option}
 use Rattle.std.specs.Prelude.{Some, None, map, length, slice_get, slice_index_or, if◌then◌else◌, count_by, sum_by}
-use Rattle.std.specs.Prelude.{bit_and, count_ones}
+use Rattle.std.specs.Prelude.{bit_and, count_ones, nat_lt}
 use Rattle.site_types.specs.Bits.{has_bit}
 use Rattle.site_types.specs.Valid.{IsValid}
 use Rattle.site_types.specs.declared.site.Site.{Site}
@@ -17,9 +17,9 @@ use Rattle.marker_table.specs.declared.input.Input.{Input}
 use Rattle.marker_table.specs.declared.input.Input.TheVariants.{Zone as ZoneInput, Manual as ManualInput}
 use Rattle.marker_table.specs.declared.input.Input.TheVariants.{Fault as FaultInput, Marker as MarkerInput}
 use Rattle.marker_table.specs.declared.mask.Mask.{Mask}
+use Rattle.marker_table.specs.declared.readings.Readings.{Readings}
 use Rattle.marker_table.specs.declared.row.Row.{Row}
 use Rattle.marker_table.specs.declared.table.MarkerTable.{MarkerTable}
-use Rattle.marker_table.specs.declared.values.Values.{Values}
 
 -- the place of a zone among the 256 of all panels
 abbrev pub zone_index : Option Zone → ℕ
@@ -33,12 +33,12 @@ input_of site (ManualTerm place) = ManualInput (zone_index (slice_get site.zones
 input_of site (FaultTerm panel) = FaultInput (panel - 1)
 input_of site (MarkerTerm place) = MarkerInput place
 
--- the word in which an input lies, and its bit there
-abbrev pub input_word : Facts → Values → Input → ℕ
-input_word facts values (ZoneInput place) = slice_index_or facts.zones (place / 32) 0
-input_word facts values (ManualInput place) = slice_index_or facts.manual (place / 32) 0
-input_word facts values (FaultInput place) = facts.faults
-input_word facts values (MarkerInput place) = slice_index_or values.words (place / 32) 0
+-- which of the readings has an input, and its bit there: zones, call points, faults, markers
+abbrev pub input_word : Input → ℕ
+input_word (ZoneInput place) = place / 32
+input_word (ManualInput place) = 8 + place / 32
+input_word (FaultInput place) = 16
+input_word (MarkerInput place) = 17 + place / 32
 
 abbrev pub input_bit : Input → ℕ
 input_bit (ZoneInput place) = place % 32
@@ -47,32 +47,39 @@ input_bit (FaultInput place) = place % 32
 input_bit (MarkerInput place) = place % 32
 
 -- what is read there
-abbrev pub reads : Facts → Values → Input → Bool
-reads facts values input = has_bit (input_word facts values input) (input_bit input)
+abbrev pub reads : Readings → Input → Bool
+reads readings input = has_bit (slice_index_or readings.words (input_word input) 0) (input_bit input)
 
--- two inputs lie in one word
-abbrev pub is_same_word : Input → Input → Bool
-is_same_word (ZoneInput a) (ZoneInput b) = a / 32 == b / 32
-is_same_word (ManualInput a) (ManualInput b) = a / 32 == b / 32
-is_same_word (FaultInput a) (FaultInput b) = true
-is_same_word (MarkerInput a) (MarkerInput b) = a / 32 == b / 32
-is_same_word _ _ = false
+-- readings have the words of facts
+pub record HasFacts (facts : Facts) (readings : Readings) : Type 0 where
+  pub size : length readings.words ≡ 32
+  pub zones : (k : ℕ) → k < 8 → slice_index_or readings.words k 0 ≡ slice_index_or facts.zones k 0
+  pub manual : (k : ℕ) → k < 8 → slice_index_or readings.words (8 + k) 0 ≡ slice_index_or facts.manual k 0
+  pub faults : slice_index_or readings.words 16 0 ≡ facts.faults
+
+-- which markers are true in readings, by their places
+abbrev pub value_read : Readings → ℕ → Bool
+value_read readings m = nat_lt m 256 && has_bit (slice_index_or readings.words (17 + m / 32) 0) (m % 32)
+
+-- readings have these values of the markers
+abbrev pub HasValues : (ℕ → Bool) → Readings → Type 0
+HasValues values readings = (m : ℕ) → value_read readings m ≡ values m
 
 -- how many inputs of a mask are true
-abbrev pub count_in : Facts → Values → Mask → ℕ
-count_in facts values mask = count_ones (bit_and mask.bits (input_word facts values mask.input))
+abbrev pub count_in : Readings → Mask → ℕ
+count_in readings mask = count_ones (bit_and mask.bits (slice_index_or readings.words (mask.word % 32) 0))
 
 abbrev pub one_if : Bool → ℕ
 one_if b = if b then 1 else 0
 
 -- the mask of no input in the word of one
 abbrev pub no_mask : Input → Mask
-no_mask input = record { input = input; bits = 0 }
+no_mask input = record { word = input_word input; bits = 0 }
 
 -- a mask has one input more than another
 abbrev pub AddsInput : Input → Mask → Mask → Type 0
-AddsInput input old new = (facts : Facts) (values : Values)
-    → count_in facts values new ≡ count_in facts values old + one_if (reads facts values input)
+AddsInput input old new = (readings : Readings)
+    → count_in readings new ≡ count_in readings old + one_if (reads readings input)
 
 -- the same of the mask at a place
 abbrev pub AddsInputAt : Input → List Mask → ℕ × Mask → Type 0
@@ -81,8 +88,8 @@ AddsInputAt input masks (place, new) = (place < length masks)
 
 -- masks have one input more than others
 abbrev pub CountsMore : Input → List Mask → List Mask → Type 0
-CountsMore input old new = (facts : Facts) (values : Values)
-    → sum_by (count_in facts values) new ≡ sum_by (count_in facts values) old + one_if (reads facts values input)
+CountsMore input old new = (readings : Readings)
+    → sum_by (count_in readings) new ≡ sum_by (count_in readings) old + one_if (reads readings input)
 
 -- how many of so many terms have to hold
 abbrev pub needed_of : Combine → ℕ → ℕ
@@ -93,8 +100,8 @@ needed_of (AtLeast needed) terms = needed
 -- a row counts what a marker's terms look at, each as often as it stands among them
 pub record IsRowOf (site : Site) (marker : Marker) (row : Row) : Type 0 where
   pub needed : row.needed ≡ needed_of marker.combine (length marker.terms)
-  pub counted : (facts : Facts) (values : Values)
-      → sum_by (count_in facts values) row.masks ≡ count_by (reads facts values) (map (input_of site) marker.terms)
+  pub counted : (readings : Readings)
+      → sum_by (count_in readings) row.masks ≡ count_by (reads readings) (map (input_of site) marker.terms)
 
 -- each row is that of the marker at its place
 abbrev pub AreRowsOf : Site → List Marker → List Row → Type 0

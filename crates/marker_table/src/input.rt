@@ -1,9 +1,8 @@
-ghost use Rattle.std.specs.Prelude.{◌≡◌, ◌≤◌, ◌+◌, ◌-◌, ◌*◌};
+ghost use Rattle.std.specs.Prelude.{◌≡◌, ◌≤◌, ◌<◌, ◌+◌, ◌-◌, ◌*◌};
 ghost use Rattle.site_types.specs.Valid.{IsTerm, IsValid};
-ghost use Rattle.marker_table.specs.Table.{input_bit, input_of, is_same_word, input_word};
+ghost use Rattle.marker_table.specs.Table.{input_bit, input_of, input_word};
 
-use crate::facts::Facts;
-use crate::values::Values;
+use crate::readings::{FAULTS_FROM, MANUAL_FROM, MARKERS_FROM};
 use site_types::{Site, Term, Zone};
 
 /// What a term looks at: one bit of the facts, or a marker.
@@ -34,15 +33,16 @@ impl Input {
         }
     }
 
-    // The word of 32 zones, call points, panels or markers in which it lies.
-    pub(crate) fn word(self, facts: &Facts, values: &Values) -> u32
-        ensures { result ≡ input_word facts.now values.now self }
+    // Which of the readings has it.
+    pub(crate) fn word(self) -> u8
+        ensures value { result ≡ input_word self }
+        ensures small { result < 32 }
     {
         match self {
-            Input::Zone(place) => facts.zones[place as usize / 32],
-            Input::Manual(place) => facts.manual[place as usize / 32],
-            Input::Fault(_) => facts.faults as u32,
-            Input::Marker(place) => values.words[place as usize / 32],
+            Input::Zone(place) => place / 32,
+            Input::Manual(place) => MANUAL_FROM as u8 + place / 32,
+            Input::Fault(_) => FAULTS_FROM as u8,
+            Input::Marker(place) => MARKERS_FROM as u8 + place / 32,
         }
     }
 
@@ -55,19 +55,6 @@ impl Input {
             | Input::Manual(place)
             | Input::Fault(place)
             | Input::Marker(place) => place % 32,
-        }
-    }
-
-    // Whether another one lies in the same word.
-    pub(crate) fn is_with(self, other: Input) -> bool
-        ensures { result ≡ is_same_word self other }
-    {
-        match (self, other) {
-            (Input::Zone(a), Input::Zone(b))
-            | (Input::Manual(a), Input::Manual(b))
-            | (Input::Marker(a), Input::Marker(b)) => a / 32 == b / 32,
-            (Input::Fault(_), Input::Fault(_)) => true,
-            _ => false,
         }
     }
 }

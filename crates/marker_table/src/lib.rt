@@ -5,7 +5,8 @@
 //! with [`MarkerTable`]: it is made for a site, and [`MarkerTable::evaluate`] answers one marker over
 //! [`Facts`] and over the [`Values`] of the markers. Each answer costs one step of a counter that takes no
 //! bytes ([`Steps`]), and nothing else raises that counter: a contract that names the counter says how many
-//! markers were evaluated.
+//! markers were evaluated. Where many markers are evaluated in turn, [`Readings`] keep the facts and the values at hand
+//! word by word ([`MarkerTable::evaluate_read`]).
 //!
 //! [`MarkerTable::new`] alone takes memory: eight bytes, rounded up by the growing of a list, for each word of 32
 //! zones, call points, faults or markers in which a marker has terms, and for each time that a term stands again.
@@ -15,6 +16,7 @@
 mod facts;
 mod input;
 mod mask;
+mod readings;
 mod row;
 mod steps;
 mod table;
@@ -22,6 +24,7 @@ mod values;
 
 pub use facts::Facts;
 pub use input::Input;
+pub use readings::Readings;
 pub use steps::Steps;
 pub use table::MarkerTable;
 pub use values::Values;

@@ -1,16 +1,15 @@
 ghost use Rattle.std.specs.Prelude.{◌≡◌, IfSome};
 ghost use Rattle.marker_table.specs.Table.{AddsInput, count_in, no_mask};
 
-use crate::facts::Facts;
 use crate::input::Input;
-use crate::values::Values;
+use crate::readings::Readings;
 use site_types::{has_bit_32, with_bit_32};
 
 /// Some bits of one word: of the zones of a panel, their call points, the faults, or 32 markers.
 #[derive(Clone, Copy, Debug, PartialEq, Eq)]
 pub(crate) struct Mask {
-    // Any input in the word.
-    input: Input,
+    // Which of the readings it is.
+    word: u8,
     bits: u32,
 }
 
@@ -20,7 +19,7 @@ impl Mask {
         ensures { AddsInput input (no_mask input) result }
     {
         Mask {
-            input,
+            word: input.word(),
             bits: with_bit_32(0, input.bit(), true),
         }
     }
@@ -30,19 +29,19 @@ impl Mask {
         ensures { IfSome result (AddsInput input self) }
     {
         let bit = input.bit();
-        if !self.input.is_with(input) || has_bit_32(self.bits, bit) {
+        if self.word != input.word() || has_bit_32(self.bits, bit) {
             return None;
         }
         Some(Mask {
-            input: self.input,
+            word: self.word,
             bits: with_bit_32(self.bits, bit, true),
         })
     }
 
     // How many of its inputs are true.
-    pub(crate) fn count(self, facts: &Facts, values: &Values) -> u32
-        ensures { result ≡ count_in facts.now values.now self }
+    pub(crate) fn count(&self, readings: &Readings) -> u32
+        ensures { result ≡ count_in readings.now self.now }
     {
-        (self.bits & self.input.word(facts, values)).count_ones()
+        (self.bits & readings.words[(self.word % 32) as usize]).count_ones()
     }
 }

@@ -2,10 +2,9 @@ ghost use Rattle.std.specs.Prelude.{◌≡◌, ◌<◌, All, IfOk, IfSome, lengt
 ghost use Rattle.site_types.specs.Valid.{IsTerm, IsValid};
 ghost use Rattle.marker_table.specs.Table.{AddsInputAt, CountsMore, IsRowOf, count_in, needed_of};
 
-use crate::facts::Facts;
 use crate::input::Input;
 use crate::mask::Mask;
-use crate::values::Values;
+use crate::readings::Readings;
 use site_types::{Combine, Marker, Site};
 use std::alloc::Global;
 use tick_units::{Items, NoMemory};
@@ -36,13 +35,12 @@ impl Row {
     }
 
     // Whether enough of what it looks at is true.
-    pub(crate) fn is_met(&self, facts: &Facts, values: &Values) -> bool
-        ensures { result ≡ nat_le self.now.needed (sum_by (count_in facts.now values.now)
-            self.now.masks) }
+    pub(crate) fn is_met(&self, readings: &Readings) -> bool
+        ensures { result ≡ nat_le self.now.needed (sum_by (count_in readings.now) self.now.masks) }
     {
         let mut left = self.needed;
         for mask in self.masks.as_slice() {
-            let count = mask.count(facts, values) as usize;
+            let count = mask.count(readings) as usize;
             if count >= left {
                 return true;
             }

@@ -1,10 +1,12 @@
-ghost use Rattle.std.specs.Prelude.{◌≡◌, ◌+◌, IfOk};
+ghost use Rattle.std.specs.Prelude.{◌≡◌, ◌+◌, Bool, IfOk, ℕ};
 ghost use Rattle.site_types.specs.Valid.{IsValid};
 ghost use Rattle.site_types.specs.declared.site.Site.{Site as SiteOf};
 ghost use Rattle.marker_table.specs.Equations.{equation, values_of};
-ghost use Rattle.marker_table.specs.Table.{IsTableOf};
+ghost use Rattle.marker_table.specs.declared.facts.Facts.{Facts as FactsOf};
+ghost use Rattle.marker_table.specs.Table.{HasFacts, HasValues, IsTableOf};
 
 use crate::facts::Facts;
+use crate::readings::Readings;
 use crate::row::Row;
 use crate::steps::Steps;
 use crate::values::Values;
@@ -47,9 +49,24 @@ impl MarkerTable {
             → result ≡ equation site facts.now (values_of values.now) marker }
         ensures step { steps.new ≡ steps.old + 1 }
     {
+        self.evaluate_read(marker, &Readings::of(facts, values), steps)
+    }
+
+    /// The same over readings of facts and of the values of the markers.
+    pub fn evaluate_read<L: Ledger>(
+        &self,
+        marker: u16,
+        readings: &Readings,
+        steps: &mut Steps<L>,
+    ) -> bool
+        ensures equation { (site : SiteOf) (facts : FactsOf) (values : ℕ → Bool)
+            → IsTableOf site self.now → HasFacts facts readings.now
+            → HasValues values readings.now → result ≡ equation site facts values marker }
+        ensures step { steps.new ≡ steps.old + 1 }
+    {
         steps.raise();
         match self.rows.get(marker as usize) {
-            Some(row) => row.is_met(facts, values),
+            Some(row) => row.is_met(readings),
             None => false,
         }
     }

@@ -1,4 +1,5 @@
-ghost use Rattle.std.specs.Prelude.{◌≡◌, ◌≢◌, ◌||◌, ℕ, false};
+ghost use Rattle.std.specs.Prelude.{◌≡◌, ◌≢◌, ◌<◌, ◌+◌, ◌*◌, ◌||◌, ℕ, false};
+ghost use Rattle.site_types.specs.Bits.{has_bit};
 ghost use Rattle.marker_table.specs.Equations.{values_of};
 
 use site_types::{has_bit_32, with_bit_32};
@@ -25,6 +26,17 @@ impl Values {
         match self.words.get(marker as usize / 32) {
             Some(word) => has_bit_32(*word, (marker % 32) as u8),
             None => false,
+        }
+    }
+
+    /// Which of the 32 markers from a place on are true, that being 32 times a number.
+    pub fn word(&self, number: usize) -> u32
+        ensures { (bit : ℕ) → bit < 32
+            → has_bit result bit ≡ values_of self.now (32 * number + bit) }
+    {
+        match self.words.get(number) {
+            Some(word) => *word,
+            None => 0,
         }
     }
 

@@ -3,8 +3,8 @@
 ghost use Rattle.std.specs.Prelude.{◌≡◌, false};
 ghost use Rattle.desk_doors.specs.Passing.{door_sides};
 ghost use Rattle.node_command.specs.Acting.{HasServedAll, IsOpened, ServesNext};
+ghost use Rattle.node_desk.specs.Replies.{MayReply};
 ghost use Rattle.node_desk.specs.Running.{KeepsOn};
-ghost use Rattle.node_desk.specs.Serving.{MayServe};
 ghost use Rattle.panel_edges.specs.Faults.{HasCause};
 ghost use Rattle.retained_journal.specs.Images.{Stands as StandsOn};
 ghost use Rattle.serving_ends.specs.Ends.{BlamesDoor, IsCount};
@@ -53,7 +53,7 @@ fn serve_next<G: Door, D: Disk>(
     door: &mut G,
     disk: &mut D,
 ) -> Result<Exchanged, Failed>
-    requires may { MayServe desk.old.run }
+    requires may { MayReply desk.old.run }
     requires out { G.is_out door.old ≡ false }
     requires stands { StandsOn D.honest D.images disk.old desk.old.run.journal }
     ensures serves { ServesNext

@@ -59,16 +59,6 @@ pub record BlamesWriting (before after : ℕ) (exchanged : Exchanged) : Type 0 w
 
 -- ---- one connection
 
--- a connection may be served
-pub record MayServe (run : NodeRun) : Type 0 where
-  pub site : Site
-  pub panel : ℕ
-  pub kept : Retained
-  pub history : List NodeMoment
-  pub ticks : List TickBlock
-  pub runs : RunsFor site panel kept history ticks run
-  pub room : HasRoomForTick ticks
-
 -- one was served, and the panel stands for the history and the ticks that this made
 pub record HasServed (site : Site) (panel : ℕ) (kept : Retained) (history : List NodeMoment) (ticks : List TickBlock)
     (given back : ToldConn) (disks : Disks) (old run : NodeRun) (exchanged : Exchanged) : Type 0 where

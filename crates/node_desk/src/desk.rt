@@ -1,8 +1,9 @@
 ghost use Rattle.std.specs.Prelude.{◌≡◌, [], IfOk};
 ghost use Rattle.desk_doors.specs.Doors.{conn_told};
+ghost use Rattle.node_desk.specs.Replies.{MayReply};
 ghost use Rattle.node_desk.specs.Running.{KeepsOn};
 ghost use Rattle.node_desk.specs.Runs.{HasTicks, RunsFor};
-ghost use Rattle.node_desk.specs.Serving.{BlamesConn, MayServe, ServesOne};
+ghost use Rattle.node_desk.specs.Serving.{BlamesConn, ServesOne};
 ghost use Rattle.panel_parts.specs.Stands.{HasPlan};
 ghost use Rattle.panel_rules.specs.Moments.{IsPanel};
 ghost use Rattle.retained_journal.specs.Images.{Stands as StandsOn};
@@ -67,7 +68,7 @@ impl NodeDesk {
 
     /// Serves one connection: reads what comes, does what that brings about, and answers it.
     pub fn serve_one<C: Source + Sink, D: Disk>(&mut self, conn: &mut C, disk: &mut D) -> Exchanged
-        requires may { MayServe self.old.run }
+        requires may { MayReply self.old.run }
         requires stands { StandsOn D.honest D.images disk.old self.old.run.journal }
         ensures serves { ServesOne (conn_told (C.left conn.old) (C.written conn.old))
             (conn_told (C.left conn.new) (C.written conn.new))

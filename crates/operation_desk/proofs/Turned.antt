@@ -1,10 +1,10 @@
 -- The desk after a turn of Desk.
-use Rattle.std.proofs.Common.{◌≡◌, ◌≢◌, ℕ, ◌+◌, ◌-◌, ◌==◌, ◌&&◌, Bool, true, false, not, List, [], ◌∷◌, length}
+use Rattle.std.proofs.Common.{◌≡◌, ◌≢◌, ℕ, ◌+◌, ◌-◌, ◌==◌, ◌&&◌, Bool, true, false, not, List, [], ◌∷◌, ◌++◌, length}
 use Rattle.std.proofs.Common.{if◌then◌else◌, inl, inr, refl, sym, ◌∙◌, ap, subst, arith}
 use Rattle.std.specs.Prelude.{nat_le, nat_lt, slice_index, slice_set}
 use Rattle.std.specs.List.{AllByRecursion}
 use Rattle.std.proofs.lemmas.Bool.Decides.{eqb_tells, leb_tells}
-use Rattle.std.proofs.lemmas.List.{get_or-set_other, get_or-set_same, length-set}
+use Rattle.std.proofs.lemmas.List.{get_or-set_other, get_or-set_same, length-set, nil_from_length, set-get_or}
 use Rattle.std.proofs.lemmas.List.Sums.{fold-append}
 use Rattle.tick_units.specs.declared.task.Task.TheVariants.{Desk as DeskTask}
 use Rattle.site_types.specs.declared.retained.Retained.{Retained}
@@ -40,11 +40,29 @@ pub record HasBusy (busy : List ℕ) (old new : Desk) : Type 0 where
   pub failed : new.answers.failed ≡ old.answers.failed
   pub busy_is : new.answers.busy ≡ busy
 
+-- these are put in it
+pub busy_put : (desk : Desk) (busy put : List ℕ) → put ≡ busy → HasBusy busy desk (record desk { answers = record desk.answers { busy = put } })
+busy_put desk busy put same = record {
+  tick = refl;
+  number = refl;
+  counts = refl;
+  asked = refl;
+  waiting = refl;
+  done = refl;
+  ops = refl;
+  failed = refl;
+  busy_is = same;
+}
+
 -- those of a panel, counted for it and for another
 count_own : (panel : ℕ) (test : RequestOf → Bool) (xs : List RequestOf) → AllByRecursion (λ (r : RequestOf). (r.panel == panel) ≡ true) xs
     → count (λ (r : RequestOf). (r.panel == panel) && test r) xs ≡ count test xs
 count_own panel test [] all = refl
 count_own panel test (r ∷ xs) all = let ih = count_own panel test xs all.1 in rw all.0 (omega (arith, ih))
+
+count_all : (test : RequestOf → Bool) (xs : List RequestOf) → AllByRecursion (λ (r : RequestOf). test r ≡ true) xs → count test xs ≡ length xs
+count_all test [] all = refl
+count_all test (r ∷ xs) all = let ih = count_all test xs all.1 in rw all.0 (omega (arith, ih))
 
 count_other : (panel q : ℕ) (test : RequestOf → Bool) (xs : List RequestOf) → panel ≢ q
     → AllByRecursion (λ (r : RequestOf). (r.panel == panel) ≡ true) xs → count (λ (r : RequestOf). (r.panel == q) && test r) xs ≡ 0
@@ -211,3 +229,34 @@ module _ (site : Site) (kept settings : Retained) (panel : ℕ) (before : List M
             | inl t ↦ (let x : true ≡ false = ap (λ b. if b then true else has_turned q DeskTask before) (sym t.0) ∙ e in absurd cc)
             | inr t ↦ others q p t.1 ∙ h.idle q p (ap (λ b. if b then true else has_turned q DeskTask before) (sym t.0) ∙ e)
           ]
+
+  -- where no request is there to be taken, none was asked for at the panel, and a turn leaves the desk as it is
+  module _ (few : length old.asked.items ≡ 0) where
+    none : old.asked.items ≡ []
+    none = nil_from_length old.asked.items few
+
+    only_late : own ≡ lates site kept settings panel before old h m
+    only_late =
+        mine_is site kept settings panel before old h m
+        ∙ ap (λ xs. firsts_of panel xs ++ lates site kept settings panel before old h m) none
+
+    none_asked : length own ≡ 0
+    none_asked =
+        let n = late_count 0 own (counted panel tick site before) in
+        let c = count_all (λ (r : RequestOf). nat_le most_operations r.earlier) own
+        (subst (AllByRecursion (λ (r : RequestOf). nat_le most_operations r.earlier ≡ true)) (sym only_late) all_late) in
+        omega (arith, n, c)
+
+    same_busy : slice_index old.counts (panel - 1) - 4 ≡ slice_index old.answers.busy (panel - 1)
+    same_busy =
+        let n = h.counts panel own_number in
+        let z = h.idle panel own_number m.run.1 in
+        let k = none_asked in
+        omega (arith, n, z, k)
+
+    pub desk_passed : DesksFor site kept (Turned panel DeskTask ∷ before) old
+    desk_passed =
+        desk_turned old old
+        (subst (λ xs. TellsOutcomes site kept all tick (after_desk site kept (firsts_of panel xs) (operations site kept before)) old) (sym none) h.outcomes)
+        (record { tick = refl; number = refl; counts = refl; asked = refl; busy = refl; failed = refl })
+        (busy_put old _ old.answers.busy (sym (ap (slice_set old.answers.busy (panel - 1)) same_busy ∙ set-get_or old.answers.busy (panel - 1) 0)))

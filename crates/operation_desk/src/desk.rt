@@ -91,6 +91,9 @@ impl Desk {
         requires { CanTurn site.now settings.now panel self.old }
         ensures { TakesTurn site.now settings.now panel self.old self.new }
     {
+        if self.asked.is_empty() {
+            return;
+        }
         self.take_own(site, settings, panel);
         self.answers.busy[panel as usize - 1] = self.counts[panel as usize - 1].saturating_sub(
             MOST_OPERATIONS as u64,
@@ -149,6 +152,7 @@ impl Desk {
     }
 
     // Takes the first operations of a panel, one after another.
+    #[inline(never)]
     fn take_own(&mut self, site: &Site, settings: &Retained, panel: u8)
         requires { CanTurn site.now settings.now panel self.old }
         ensures took { TakesOwn site.now settings.now panel self.old self.new }

@@ -1,9 +1,10 @@
 -- What a turn does to timers, and what they hold back.
-use Rattle.std.proofs.Common.{◌≡◌, ◌+◌, ◌-◌, ◌==◌, ◌&&◌, ◌||◌, ◌<◌, ℕ, Bool, true, false, List, [], ◌∷◌, Option, Some}
+use Rattle.std.proofs.Common.{◌≡◌, ◌+◌, ◌-◌, ◌==◌, ◌&&◌, ◌||◌, ◌<◌, ℕ, Bool, true, false, List, [], ◌∷◌, length, map, Option, Some}
 use Rattle.std.proofs.Common.{None, option_map, unwrap_or, if◌then◌else◌, nat_le, nat_lt, refl, sym, ◌∙◌, ap, arith}
 use Rattle.std.specs.Prelude.{not}
 use Rattle.std.specs.List.{filter_map, list_any}
 use Rattle.std.proofs.lemmas.Bool.Decides.{nat_tests}
+use Rattle.std.proofs.lemmas.List.{nil_from_length}
 use Rattle.tick_units.specs.declared.tick.Tick.{Tick}
 use Rattle.site_types.specs.declared.requests.Requests.{Requests}
 use Rattle.site_types.specs.declared.site.Site.{Site}
@@ -17,7 +18,7 @@ use Rattle.tick_units.specs.Earliest.{IsFalling, earliest, earliest_of}
 use Rattle.site_types.specs.Limits.{output_bits}
 use Rattle.output_delays.specs.Timers.{is_holding, is_since, turned_by}
 use Rattle.output_delays.proofs.Latest.{any_is}
-use Rattle.tick_units.proofs.Listed.{any_at, passes}
+use Rattle.tick_units.proofs.Listed.{any_at, map_found, passes}
 
 -- ---- timers
 
@@ -119,6 +120,43 @@ through_off site panel first calls now requests k off =
     rw (at, off)
     (delays_off (has_bit requests.asked k) (has_bit requests.manual k)
     (is_over (delay_of site panel (k + 1)) (began (k + 1) now calls) now calls))
+
+-- where no output has a delay, all that are asked for are let through
+unheld : (asked manual held : Bool) → held ≡ false → asked ≡ (asked && not (held && not manual))
+unheld true manual true e = cc
+unheld true manual false e = refl
+unheld false manual held e = refl
+
+module _ (site : Site) (panel : ℕ) (calls : List Call) (now : Tick) (requests : Requests) (items : List Timer) (few : length items ≡ 0)
+    (is : items ≡ filter_map (timer_of site panel calls) output_bits) where
+  abbrev after : List Call
+  after = Turned now.0 requests ∷ calls
+
+  pub none_turned : items ≡ filter_map (timer_of site panel after) output_bits
+  none_turned =
+      let none = nil_from_length items few in
+      none
+      ∙ ap (map (turned_by now requests.asked)) (sym none ∙ is)
+      ∙ map_found (turned_by now requests.asked) (timer_of site panel calls) (timer_of site panel after) output_bits
+      (timer_turned site panel calls now requests)
+
+  pub all_through : (first : Bool) → IsFalling (overrides_of calls) → (k : ℕ) → k < 32
+      → has_bit requests.asked k ≡ is_through site panel first calls now.0 requests (k + 1)
+  all_through first falls k small = go (are_active first calls) refl
+    where
+      latest : Option Tick
+      latest = last_before now.0 (overrides_of calls)
+
+      none_held : passes (is_holding now latest) (timer_of site panel after k) ≡ false
+      none_held =
+          sym (held_timers site panel after now latest k small)
+          ∙ ap (list_any (λ timer. (timer.place == k) && is_holding now latest timer)) (sym none_turned ∙ nil_from_length items few)
+
+      go : (b : Bool) → are_active first calls ≡ b → has_bit requests.asked k ≡ is_through site panel first calls now.0 requests (k + 1)
+      go true on =
+          unheld (has_bit requests.asked k) (has_bit requests.manual k) (passes (is_holding now latest) (timer_of site panel after k)) none_held
+          ∙ through_is site panel first calls now requests k falls on
+      go false off = through_off site panel first calls now.0 requests k off
 
 -- ---- at the start
 

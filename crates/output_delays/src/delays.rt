@@ -59,6 +59,9 @@ impl Delays {
             → StandsFor site panel active (Turned now.0 requests.now ∷ calls) self.new }
         ensures value { PassesRequests self.old now.0 requests.now result }
     {
+        if self.timers.is_empty() {
+            return requests.asked;
+        }
         let overridden = self.overrides.last_before(now);
         let held = turn_timers(self.timers.as_mut_slice(), now, requests.asked, overridden);
         if self.active {

@@ -20,7 +20,8 @@ use Rattle.site_types.specs.Bits.{no_set}
 use Rattle.panel_conditions.specs.Points.{points_where}
 use Rattle.panel_conditions.specs.Missing.{zone_is_off}
 use Rattle.panel_conditions.specs.Parts.{is_asked, is_of_zone, points_from}
-use Rattle.panel_conditions.specs.Stands.{are_first_watches, first_watch, AreZoneSets, TellMissing, TellsPoints}
+use Rattle.panel_conditions.specs.Told.{TellMissing}
+use Rattle.panel_conditions.specs.Stands.{are_first_watches, first_watch, AreZoneSets, TellsPoints}
 use Rattle.panel_conditions.specs.Stands.{WatchesZone, WatchesZones, WatchesPoints, Shows, nothing_shown, HasPlaces}
 use Rattle.panel_conditions.specs.Stands.{HasZoneNumber, set_or_none, point_is_off, zone_of_is_off}
 use Rattle.site_types.specs.Changes.{HasOwnPlaces}
@@ -220,17 +221,9 @@ zone_sets_more site panel k point before after own is put same h = record {
           ∙ h.each zone set at ∙ among_again site panel (is_of_zone zone) k point is far.0
     ]
 
--- nothing was told of any point
-pub none_told : (n : ℕ) (told : List Bool) → told ≡ replicate n false → TellMissing [] told
-none_told n told is place b at =
-    let here : slice_get (replicate n false) place ≡ Some b = ap (λ l. slice_get l place) (sym is) ∙ at in
-    let within = slice_get_within (replicate n false) place b here in
-    let small : place < n = omega (arith, within, length-replicate n false) in
-    sym (get_or_from_slice_get (replicate n false) place b false here) ∙ get_or-replicate n place false false small
-
 pub points_first : (site : Site) (kept : Retained) (panel : ℕ) (points : Points) → IsValid site → HasOwnPlaces site
     → points.addresses.items ≡ map (loop_address panel) site.points →
-    AreZoneSets site panel (length site.points) points.of_zones.items → points.missing ≡ no_set → TellMissing [] points.told.items →
+    AreZoneSets site panel (length site.points) points.of_zones.items → points.missing ≡ no_set → TellMissing [] points.told →
     (off zone_off : PointSet) → points.off ≡ points_from off → points.zone_off ≡ points_from zone_off →
     off ≡ points_where site panel (λ place. is_asked site kept Disabled (slice_get site.points place))
     → zone_off ≡ points_where site panel (λ place. is_asked site kept ZoneDisabled (slice_get site.points place)) →

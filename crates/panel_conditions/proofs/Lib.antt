@@ -4,6 +4,7 @@ pub mod Bits
 pub mod NextBit
 -- findings: of those taken the latest stamps and the last of a point
 pub mod Latest
+pub mod PlaceLists
 pub mod Watched
 -- sets of points, by address, and as operations change them
 pub mod PointSets

@@ -1,10 +1,9 @@
 -- What is taken of the findings of a group, and of several runs.
-use Rattle.std.proofs.Common.{◌≡◌, ◌∙◌, ◌++◌, ◌∷◌, ◌+◌, ◌-◌, ◌<◌, ◌≤◌, ◌&&◌, inl, inr, [], Bool, drop, List, None, Option, Some, not}
-use Rattle.std.proofs.Common.{true, false, length, map, max, min, slice_get, take, zero, suc, ℕ, if◌then◌else◌, get_or}
+use Rattle.std.proofs.Common.{◌≡◌, ◌∙◌, ◌++◌, ◌∷◌, ◌+◌, ◌-◌, ◌<◌, ◌≤◌, ◌&&◌, inl, inr, [], Bool, List, Some, not}
+use Rattle.std.proofs.Common.{true, false, length, map, max, slice_get, take, zero, suc, ℕ, if◌then◌else◌, get_or}
 use Rattle.std.proofs.Common.{refl, sym, ap, subst, arith, append_assoc, append-nil}
-use Rattle.std.specs.List.{range_with_len, slice_range}
+use Rattle.std.specs.List.{range_with_len}
 use Rattle.std.proofs.lemmas.List.{map-append, take_more}
-use Rattle.circular_buffer.proofs.Places.{slice_get-drop}
 use Rattle.site_types.specs.Bits.{has_bit}
 use Rattle.site_types.specs.declared.site.Site.{Site}
 use Rattle.site_types.specs.declared.retained.Retained.{Retained}
@@ -12,7 +11,6 @@ use Rattle.site_types.specs.Done.{Done}
 use Rattle.site_types.proofs.Done.{lt_tells}
 use Rattle.site_types.proofs.Masks.{has_bit-zero}
 use Rattle.coincidence_rules.specs.declared.finding.Finding.{Finding}
-use Rattle.coincidence_rules.proofs.Lists.{get_take}
 use Rattle.answer_lanes.specs.declared.finding_group.FindingGroup.{FindingGroup}
 use Rattle.answer_lanes.specs.declared.run.Run.{Run}
 use Rattle.answer_lanes.specs.Points.{finding_at, mask_if}
@@ -20,7 +18,9 @@ use Rattle.answer_lanes.specs.Runs.{all_items, items_of}
 use Rattle.answer_lanes.proofs.Moving.{items_more, range_parts}
 use Rattle.panel_conditions.specs.declared.points.Points.{Points}
 use Rattle.panel_conditions.specs.declared.zone_watch.ZoneWatch.{ZoneWatch}
-use Rattle.panel_conditions.specs.Stands.{AreTold, WatchesPoints, WatchesZone, WatchesZones, latest_stamp}
+use Rattle.panel_conditions.specs.Parts.{TellsNoZone}
+use Rattle.panel_conditions.specs.Told.{AreTold}
+use Rattle.panel_conditions.specs.Stands.{WatchesPoints, WatchesZone, WatchesZones, latest_stamp}
 use Rattle.panel_conditions.proofs.Latest.{latest-append}
 use Rattle.panel_conditions.proofs.Watched.{points_again}
 
@@ -80,6 +80,13 @@ module _ (group : FindingGroup) (test : Finding → Bool) (base : Bool) (is :
       latest_none (from + 1) count (λ k less. (let there : from + (k + 1) ≡ from + 1 + k = omega arith in
       ap (has_bit group.telling) (sym there) ∙ none (k + 1) (omega (arith, less)))) in
       omega (arith, next, one, rest)
+
+  -- where nothing holds of them all, none is told
+  pub latest_off : (from count : ℕ) → base ≡ false → latest_stamp test (map (finding_at group) (range_with_len from count)) ≡ 0
+  latest_off from count off =
+      let none : bound ≡ 0 = ap (λ b. if b then group.stamp.0 else 0) off in
+      let most = latest_most from count in
+      omega (arith, most, none)
 
   -- one that tells is as good as all
   pub latest_one : (from count place : ℕ) → from ≤ place → place < from + count → has_bit group.telling place ≡ true
@@ -159,6 +166,22 @@ module _ (group : FindingGroup) (from count : ℕ) where
         (λ p. bits_if (has_bit group.telling p) group.counted group.manual k) from count none);
   }
 
+  same_as_off : (group.counted ≡ 0) × (group.confirmed ≡ 0) × (group.manual ≡ 0) × (group.released ≡ 0) → SameStamps [] items
+  same_as_off none = record {
+    confirmed = λ k. sym (latest_off group (λ f. has_bit f.confirmed k) (has_bit group.confirmed k) (λ p. bit_if (has_bit group.telling p) group.confirmed k)
+        from count (no_bit group.confirmed k none.1));
+    called = λ k. sym (latest_off group (λ f. has_bit f.manual k) (has_bit group.manual k) (λ p. bit_if (has_bit group.telling p) group.manual k)
+        from count (no_bit group.manual k none.2));
+    released = λ k. sym (latest_off group (λ f. has_bit f.released k) (has_bit group.released k) (λ p. bit_if (has_bit group.telling p) group.released k)
+        from count (no_bit group.released k none.3));
+    told = λ k. sym (latest_off group (λ f. has_bit f.counted k && not (has_bit f.manual k)) (has_bit group.counted k && not (has_bit group.manual k))
+        (λ p. bits_if (has_bit group.telling p) group.counted group.manual k) from count
+        (ap (λ b. b && not (has_bit group.manual k)) (no_bit group.counted k none.0)));
+  }
+    where
+      no_bit : (mask k : ℕ) → mask ≡ 0 → has_bit mask k ≡ false
+      no_bit mask k none = ap (λ m. has_bit m k) none ∙ has_bit-zero k
+
 -- a run is taken by one of its findings that tells
 pub taken_by_one : (site : Site) (panel : ℕ) (done : List Done) (taken : List Finding) (run : Run FindingGroup) (place : ℕ) (watches : List ZoneWatch)
     → run.taken ≤ place → place < run.taken + run.count → has_bit run.first.telling place ≡ true
@@ -176,12 +199,22 @@ taken_by_none site panel done taken run watches none h =
     zones_as site panel done taken [] (items_of finding_at run) watches (same_as_none run.first run.taken run.count none)
     (subst (λ l. WatchesZones site panel done l watches) (sym (append-nil taken)) h)
 
+-- or by none where its group tells of no zone
+pub taken_by_nothing : (site : Site) (panel : ℕ) (done : List Done) (taken : List Finding) (run : Run FindingGroup) (watches : List ZoneWatch)
+    → TellsNoZone run.first → WatchesZones site panel done taken watches → WatchesZones site panel done (taken ++ items_of finding_at run) watches
+taken_by_nothing site panel done taken run watches (inl none) h =
+    taken_by_none site panel done taken run watches
+    (λ k less. ap (λ m. has_bit m (run.taken + k)) none ∙ has_bit-zero (run.taken + k)) h
+taken_by_nothing site panel done taken run watches (inr none) h =
+    zones_as site panel done taken [] (items_of finding_at run) watches (same_as_off run.first run.taken run.count none)
+    (subst (λ l. WatchesZones site panel done l watches) (sym (append-nil taken)) h)
+
 -- ---- points of which nothing new is told
 
 module _ (site : Site) (kept : Retained) (panel : ℕ) (done : List Done) (points : Points) (group : FindingGroup) where
   all_again : (from count : ℕ) (taken : List Finding)
       → ((place : ℕ) → from ≤ place → place < from + count
-      → slice_get points.told.items (finding_at group place).point ≡ Some (has_bit group.missing place))
+      → slice_get points.told (finding_at group place).point ≡ Some (has_bit group.missing place))
       → WatchesPoints site kept panel done taken points
       → WatchesPoints site kept panel done (taken ++ map (finding_at group) (range_with_len from count)) points
   all_again from zero taken told h = subst (λ l. WatchesPoints site kept panel done l points) (sym (append-nil taken)) h
@@ -193,31 +226,9 @@ module _ (site : Site) (kept : Retained) (panel : ℕ) (done : List Done) (point
       (points_again site kept panel done taken item points (told from (omega arith) (omega arith)) h))
 
 pub run_again : (site : Site) (kept : Retained) (panel : ℕ) (done : List Done) (taken : List Finding) (run : Run FindingGroup) (points : Points)
-    → AreTold points.told.items run →
+    → AreTold points.told run →
     WatchesPoints site kept panel done taken points → WatchesPoints site kept panel done (taken ++ items_of finding_at run) points
 run_again site kept panel done taken run points told h = all_again site kept panel done points run.first run.taken run.count taken told h
-
--- the marks of a run's points stand in a range of all marks
-pub told_in : (marks among part : List Bool) (run : Run FindingGroup) (start end : ℕ) → start ≡ run.first.point + run.taken → end ≡ start + run.count
-    → end ≤ 65536 → among ≡ marks → part ≡ slice_range among start end → length part + start ≡ end
-    → ((k : ℕ) → k < length part → slice_get part k ≡ Some (has_bit run.first.missing (run.taken + k))) → AreTold marks run
-told_in marks among part run start end begins ends most same is count are place from below =
-    ap (slice_get marks) at
-    ∙ go (are (place - run.taken) (omega (arith, begins, ends, count, from, below)))
-    ∙ ap (λ p. Some (has_bit run.first.missing p)) again
-  where
-    at : (finding_at run.first place).point ≡ start + (place - run.taken)
-    at = (let here : min (run.first.point + place) 65535 ≡ start + (place - run.taken) = omega (arith, begins, ends, most, from, below) in here)
-
-    again : run.taken + (place - run.taken) ≡ place
-    again = omega (arith, from)
-
-    go : slice_get part (place - run.taken) ≡ Some (has_bit run.first.missing (run.taken + (place - run.taken)))
-        → slice_get marks (start + (place - run.taken)) ≡ Some (has_bit run.first.missing (run.taken + (place - run.taken)))
-    go h =
-        sym (slice_get-drop start marks (place - run.taken) (start + (place - run.taken)) refl)
-        ∙ (get_take (end - start) (place - run.taken) (drop start marks) (has_bit run.first.missing (run.taken + (place - run.taken)))
-        (ap (λ l. slice_get l (place - run.taken)) (sym (is ∙ ap (λ l. slice_range l start end) same)) ∙ h)).1
 
 -- ---- what is taken
 
@@ -251,11 +262,3 @@ run_more P taken runs k d small h =
     let run = get_or runs k d in
     subst P (append_assoc taken (all_items finding_at (take k runs)) (items_of finding_at run)
     ∙ ap (λ l. taken ++ l) (sym (ap (all_items finding_at) (take_more runs k d small) ∙ items_more finding_at (take k runs) run))) h
-
--- read from a list that is the same
-pub run_then : (P : List Finding → Type 0) (taken : List Finding) (runs read : List (Run FindingGroup)) (k : ℕ) (d : Run FindingGroup) → read ≡ runs → k < length runs
-    → P ((taken ++ all_items finding_at (take k runs)) ++ items_of finding_at (get_or read k d))
-    → P (taken ++ all_items finding_at (take (k + 1) runs))
-run_then P taken runs read k d same small h =
-    run_more P taken runs k d small
-    (subst (λ l. P ((taken ++ all_items finding_at (take k runs)) ++ items_of finding_at (get_or l k d))) same h)

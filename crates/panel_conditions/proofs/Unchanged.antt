@@ -194,20 +194,6 @@ stays_first hold shown =
       buzzer = λ lt. absurd (omega (arith, lt, stamp));
     }
 
-pub takes_none : (hold : Hold) → TakesFindings hold hold
-takes_none hold = record { shown = refl; missing = λ same. (same, refl); moved = refl; off = refl; zone_off = refl; muted = refl }
-
-pub takes_more : (first amid last : Hold) → TakesFindings first amid → TakesFindings amid last → TakesFindings first last
-takes_more first amid last a b =
-    record {
-      shown = b.shown ∙ a.shown;
-      missing = λ same. let later = b.missing same in let earlier = a.missing later.0 in (earlier.0, later.1 ∙ earlier.1);
-      moved = b.moved ∙ a.moved;
-      off = b.off ∙ a.off;
-      zone_off = b.zone_off ∙ a.zone_off;
-      muted = b.muted ∙ a.muted;
-    }
-
 pub stays_taken : (done : List Done) (before after : Hold) → TakesFindings before after → ShownStays done before → ShownStays done after
 stays_taken done before after takes h =
     let moved : after.zones.moved.0 ≡ before.zones.moved.0 = ap (λ t. t.0) takes.moved in

@@ -1,10 +1,10 @@
 -- The zones and points that are watched, with one more finding or operation.
-use Rattle.std.proofs.Common.{◌≡◌, ◌≢◌, ◌⊎◌, ◌≤◌, ℕ, zero, suc, ◌+◌, slice_set, arith, Bool, true, false, not, List}
+use Rattle.std.proofs.Common.{◌≡◌, ◌≢◌, ℕ, ◌+◌, Bool, true, false, not, List}
 use Rattle.std.proofs.Common.{[], ◌∷◌, ◌++◌, map, length, inl, inr, Option, Some, None, option_map, slice_get, ◌==◌}
 use Rattle.std.proofs.Common.{◌&&◌, ◌||◌, nat_lt, if◌then◌else◌, refl, sym, ◌∙◌, ap, subst}
 use Rattle.std.proofs.lemmas.Bool.{cases_eq, eq-eqb, ne_eqb}
 use Rattle.std.proofs.lemmas.Bool.Decides.{eqb_tells}
-use Rattle.std.proofs.lemmas.Option.{slice_get-map, slice_get_within}
+use Rattle.std.proofs.lemmas.Option.{slice_get-map}
 use Rattle.std.proofs.lemmas.List.{length-map}
 use Rattle.tick_units.specs.declared.tick.Tick.{Tick}
 use Rattle.site_types.specs.declared.site.Site.{Site}
@@ -29,6 +29,7 @@ use Rattle.panel_conditions.specs.Parts.{zone_taken, zone_done, points_at, point
 use Rattle.tick_units.specs.LastTicks.{last_if}
 use Rattle.panel_conditions.specs.Points.{points_where}
 use Rattle.panel_conditions.specs.Missing.{missing_found, zone_is_off, shows_missing}
+use Rattle.panel_conditions.specs.Told.{MarksTold}
 use Rattle.panel_conditions.specs.Stands.{AreNumbered, WatchesZone, WatchesZones, WatchesPoints, TellsPoints, set_or_none, point_is_off, zone_of_is_off}
 use Rattle.coincidence_rules.specs.Applied.{TellsLast}
 use Rattle.panel_conditions.proofs.Latest.{stamp_more, last-push}
@@ -86,25 +87,6 @@ zones_more site panel done taken f before after count same h = record {
       subst (WatchesZone site panel done (taken ++ f ∷ []) k) w.2 (zone_more site panel done taken f k w.0 (h.each k w.0 w.1));
 }
 
-get_set : {X : Type 0} (xs : List X) (i k : ℕ) (v w : X) → slice_get (slice_set xs i v) k ≡ Some w
-    → ((k ≡ i) × (v ≡ w)) ⊎ ((k ≢ i) × (slice_get xs k ≡ Some w))
-get_set [] i k v w h = absurd (cc)
-get_set (x ∷ xs) zero zero v w h = inl (refl, cc)
-get_set (x ∷ xs) zero (suc k) v w h = inr (omega arith, h)
-get_set (x ∷ xs) (suc i) zero v w h = inr (omega arith, h)
-get_set (x ∷ xs) (suc i) (suc k) v w h =
-    elim (get_set xs i k v w h) [ inl a ↦ inl (ap suc a.0, a.1) | inr b ↦ inr (λ e. b.0 (omega (arith, e)), b.1) ]
-
--- one mark is set
-pub marked : (xs : List Bool) (i k : ℕ) (v w : Bool) → slice_get (slice_set xs i v) k ≡ Some w
-    → ((k ≡ i) × (v ≡ w)) ⊎ ((k ≢ i) × (slice_get xs k ≡ Some w))
-marked xs i k v w h = get_set xs i k v w h
-
--- none is, past the end
-pub unmarked : (xs : List Bool) (i k : ℕ) (v w : Bool) → length xs ≤ i → slice_get xs k ≡ Some w
-    → ((k ≡ i) × (v ≡ w)) ⊎ ((k ≢ i) × (slice_get xs k ≡ Some w))
-unmarked xs i k v w past at = let within = slice_get_within xs k w at in inr (λ e. omega (arith, within, past, e), at)
-
 found_now : (taken : List Finding) (f : Finding) → missing_found (taken ++ f ∷ []) f.point ≡ f.missing
 found_now taken f = last-push f.point false taken f ∙ ap (λ b. if b then f.missing else missing_found taken f.point) (eq-eqb f.point f.point refl)
 
@@ -114,7 +96,7 @@ found_other taken f place apart =
 
 -- a finding that tells of its point what the last one told
 pub points_again : (site : Site) (kept : Retained) (panel : ℕ) (done : List Done) (taken : List Finding) (f : Finding) (points : Points)
-    → slice_get points.told.items f.point ≡ Some f.missing →
+    → slice_get points.told f.point ≡ Some f.missing →
     WatchesPoints site kept panel done taken points → WatchesPoints site kept panel done (taken ++ f ∷ []) points
 points_again site kept panel done taken f points at h = record {
   own = h.own;
@@ -135,20 +117,15 @@ points_again site kept panel done taken f points at h = record {
     ]
 
 -- a finding more
-pub points_more : (site : Site) (kept : Retained) (panel : ℕ) (done : List Done) (taken : List Finding) (f : Finding) (points amid after : Points)
-    → amid ≡ points_taken f points →
-    (after.addresses ≡ amid.addresses) × (after.of_zones ≡ amid.of_zones) × (after.missing ≡ amid.missing)
-    → (after.off ≡ amid.off) × (after.zone_off ≡ amid.zone_off) →
-    ((k : ℕ) (b : Bool) → slice_get after.told.items k ≡ Some b
-    → ((k ≡ f.point) × (f.missing ≡ b)) ⊎ ((k ≢ f.point) × (slice_get amid.told.items k ≡ Some b))) →
-    WatchesPoints site kept panel done taken points → WatchesPoints site kept panel done (taken ++ f ∷ []) after
-points_more site kept panel done taken f points amid after is rest off marks h = record {
+pub points_more : (site : Site) (kept : Retained) (panel : ℕ) (done : List Done) (taken : List Finding) (f : Finding) (points amid : Points)
+    (told : List Bool) → amid ≡ points_taken f points → MarksTold f.point f.missing amid.told told
+    → WatchesPoints site kept panel done taken points → WatchesPoints site kept panel done (taken ++ f ∷ []) (record amid { told = told })
+points_more site kept panel done taken f points amid told is marks h = record {
   own = h.own;
-  addresses = ap (λ a. a.items) rest.0 ∙ ap (λ p. p.addresses.items) is ∙ h.addresses;
-  of_zones = λ zone. ap (λ z. set_or_none (slice_get z.items zone)) rest.1 ∙ ap (λ p. set_or_none (slice_get p.of_zones.items zone)) is ∙ h.of_zones
-      zone;
+  addresses = ap (λ p. p.addresses.items) is ∙ h.addresses;
+  of_zones = λ zone. ap (λ p. set_or_none (slice_get p.of_zones.items zone)) is ∙ h.of_zones zone;
   missing =
-      rest.2 ∙ ap (λ p. p.missing) is
+      ap (λ p. p.missing) is
       ∙ ap (λ l. put_at (address_in (slice_get l f.point)) f.missing points.missing) h.addresses
       ∙ ap (put_at (address_in (slice_get (map (loop_address panel) site.points) f.point)) f.missing) h.missing
       ∙ put_place site panel f.point f.missing (missing_found taken) h.own
@@ -156,10 +133,10 @@ points_more site kept panel done taken f points amid after is rest off marks h =
       (λ place. sym (last-push place false taken f));
   told = λ place b at. elim (marks place b at) [
     | inl here ↦ sym here.1 ∙ subst (λ p. f.missing ≡ missing_found (taken ++ f ∷ []) p) (sym here.0) (sym (found_now taken f))
-    | inr other ↦ h.told place b (ap (λ p. slice_get p.told.items place) (sym is) ∙ other.1) ∙ sym (found_other taken f place other.0)
+    | inr other ↦ h.told place b (ap (λ p. slice_get p.told place) (sym is) ∙ other.1) ∙ sym (found_other taken f place other.0)
   ];
-  off = subst (TellsPoints site panel (point_is_off site kept done) done) (sym (off.0 ∙ ap (λ p. p.off) is)) h.off;
-  zone_off = subst (TellsPoints site panel (zone_of_is_off site kept done) done) (sym (off.1 ∙ ap (λ p. p.zone_off) is)) h.zone_off;
+  off = subst (TellsPoints site panel (point_is_off site kept done) done) (sym (ap (λ p. p.off) is)) h.off;
+  zone_off = subst (TellsPoints site panel (zone_of_is_off site kept done) done) (sym (ap (λ p. p.zone_off) is)) h.zone_off;
 }
 
 -- ---- one more operation

@@ -10,8 +10,9 @@ use Rattle.panel_conditions.specs.declared.hold.Hold.{Hold}
 use Rattle.panel_conditions.specs.declared.outside.Outside.{Outside}
 use Rattle.panel_conditions.specs.declared.points.Points.{Points}
 use Rattle.panel_conditions.specs.declared.shown.Shown.{Shown}
+use Rattle.panel_conditions.specs.declared.zones.Zones.{Zones}
 use Rattle.panel_conditions.specs.Stands.{HoldsFor, MayApply, MayNote, MayTurn, Settled}
-use Rattle.panel_conditions.specs.Stands.{ShownStays, ShowsThen, Watches, WatchesPoints}
+use Rattle.panel_conditions.specs.Stands.{ShownStays, ShowsThen, Watches, WatchesPoints, WatchesZones}
 use Rattle.panel_conditions.specs.Turns.{HoldTurn}
 
 -- the findings that a turn moves from the lane
@@ -57,7 +58,20 @@ WatchesPointsMore old findings points =
     → WatchesPoints site kept panel done taken old
     → WatchesPoints site kept panel done (taken ++ findings) points
 
--- zones that were settled stay so
+-- by zones, these findings are taken after those before
+abbrev pub WatchesZonesMore : Zones → List Finding → Zones → Type 0
+WatchesZonesMore old findings zones =
+    (site : Site) (panel : ℕ) (done : List Done) (taken : List Finding)
+    → WatchesZones site panel done taken old.watches.items
+    → WatchesZones site panel done (taken ++ findings) zones.watches.items
+
+-- zones that were settled stay so, whatever findings they tell of
+abbrev pub ZonesStaySettled : Zones → Zones → Type 0
+ZonesStaySettled old zones =
+    (site : Site) (panel : ℕ) (done : List Done) (taken : List Finding) (tick : ℕ)
+    → WatchesZones site panel done taken old.watches.items → Settled tick old → Settled tick zones
+
+-- so do those of all that is kept
 abbrev pub StaysSettled : Hold → Hold → Type 0
 StaysSettled old hold =
     (site : Site) (kept : Retained) (panel : ℕ) (done : List Done) (taken : List Finding) (tick : ℕ)

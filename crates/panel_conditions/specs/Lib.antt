@@ -2,6 +2,7 @@ pub mod Turns
 pub mod Points
 pub mod Zones
 pub mod Missing
+pub mod Told
 pub mod Words
 pub mod Answered
 pub mod Shown

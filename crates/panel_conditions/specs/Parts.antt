@@ -15,6 +15,7 @@ use Rattle.site_types.specs.declared.operation.Operation.TheVariants.{Reset, Dis
 use Rattle.site_types.specs.Bits.{has_bit, mask_of}
 use Rattle.site_types.specs.Done.{is_cancel, kept_point, kept_zone}
 use Rattle.coincidence_rules.specs.declared.finding.Finding.{Finding}
+use Rattle.answer_lanes.specs.declared.finding_group.FindingGroup.{FindingGroup}
 use Rattle.tick_units.specs.LastTicks.{last_at, last_if}
 use Rattle.panel_conditions.specs.declared.sign.Sign.{Sign}
 use Rattle.panel_conditions.specs.declared.sign.Sign.TheVariants.{Alarm, Manual, Released, First}
@@ -82,6 +83,11 @@ zone_shows sign tick watch = is_some watch.place && sign_shows sign tick watch
 abbrev pub watch_shows : Sign → ℕ → Option ZoneWatch → Bool
 watch_shows sign tick None = false
 watch_shows sign tick (Some watch) = zone_shows sign tick watch
+
+-- no finding of a group tells of a zone
+abbrev pub TellsNoZone : FindingGroup → Type 0
+TellsNoZone group = (group.telling ≡ 0)
+    ⊎ ((group.counted ≡ 0) × (group.confirmed ≡ 0) × (group.manual ≡ 0) × (group.released ≡ 0))
 
 -- the zones of which a finding tells
 abbrev pub told_by : Finding → ℕ

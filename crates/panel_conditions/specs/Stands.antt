@@ -21,9 +21,6 @@ use Rattle.coincidence_rules.specs.declared.finding.Finding.{Finding}
 use Rattle.coincidence_rules.specs.Applied.{MayBeDone, TellsLast}
 use Rattle.coincidence_rules.specs.Places.{numbered}
 use Rattle.coincidence_rules.specs.Wired.{IsWired}
-use Rattle.answer_lanes.specs.declared.run.Run.{Run}
-use Rattle.answer_lanes.specs.declared.finding_group.FindingGroup.{FindingGroup}
-use Rattle.answer_lanes.specs.Points.{finding_at}
 use Rattle.panel_conditions.specs.declared.zone_watch.ZoneWatch.{ZoneWatch}
 use Rattle.panel_conditions.specs.declared.sign.Sign.{Sign}
 use Rattle.panel_conditions.specs.declared.zones.Zones.{Zones}
@@ -38,6 +35,7 @@ use Rattle.tick_units.specs.LastTicks.{last_at, never_done}
 use Rattle.panel_conditions.specs.Points.{points_where}
 use Rattle.panel_conditions.specs.Turns.{HoldTurn, findings_taken, latest_tick, AreRising}
 use Rattle.panel_conditions.specs.Missing.{missing_found, zone_is_off}
+use Rattle.panel_conditions.specs.Told.{TellMissing}
 use Rattle.panel_conditions.specs.Words.{has_fault, with_missing, faults_at, faults_after}
 use Rattle.panel_conditions.specs.Words.{word_with, word_at, word_after}
 use Rattle.site_types.specs.Words.{empty_word, no_faults}
@@ -196,16 +194,6 @@ pub record AreZoneSets (site : Site) (panel n : ℕ) (sets : List PointSet) : Ty
       → points ≡ points_where site panel
       (λ place. nat_lt place n && is_of_zone zone (slice_get site.points place))
 
--- by the places of points, whether the last finding of each told it missing
-abbrev pub TellMissing : List Finding → List Bool → Type 0
-TellMissing taken told = (place : ℕ) (b : Bool) → slice_get told place ≡ Some b
-    → b ≡ missing_found taken place
-
--- the last finding of each point of a run told it missing, or not, as the run does
-abbrev pub AreTold : List Bool → Run FindingGroup → Type 0
-AreTold told run = (place : ℕ) → run.taken ≤ place → place < run.taken + run.count
-    → slice_get told (finding_at run.first place).point ≡ Some (has_bit run.first.missing place)
-
 -- the points are kept by address, zone and state as the findings and operations tell
 pub record WatchesPoints (site : Site) (kept : Retained) (panel : ℕ) (done : List Done) (taken : List Finding)
     (points : Points) : Type 0 where
@@ -215,7 +203,7 @@ pub record WatchesPoints (site : Site) (kept : Retained) (panel : ℕ) (done : L
       → set_or_none (slice_get points.of_zones.items zone) ≡ points_where site panel
       (λ place. is_of_zone zone (slice_get site.points place))
   pub missing : points.missing ≡ points_where site panel (missing_found taken)
-  pub told : TellMissing taken points.told.items
+  pub told : TellMissing taken points.told
   pub off : TellsPoints site panel (point_is_off site kept done) done points.off
   pub zone_off : TellsPoints site panel (zone_of_is_off site kept done) done points.zone_off
 

@@ -1,8 +1,8 @@
-ghost use Rattle.std.specs.Prelude.{◌≡◌, ◌<◌, ◌≤◌, ◌^◌, [], ℕ, List, All, IfOk};
+ghost use Rattle.std.specs.Prelude.{◌≡◌, ◌<◌, ◌≤◌, ◌^◌, [], ℕ, List, All, IfOk, length};
 ghost use Rattle.tick_units.specs.Lane.{after_turn};
 ghost use Rattle.site_types.specs.Valid.{IsValid};
 ghost use Rattle.answer_lanes.specs.Points.{finding_at};
-ghost use Rattle.answer_lanes.specs.Runs.{HoldsItems, HasShortCount, all_items, items_of};
+ghost use Rattle.answer_lanes.specs.Runs.{HoldsItems, all_items};
 
 use crate::news::has_fault;
 use crate::outside::Outside;
@@ -141,39 +141,38 @@ impl Hold {
         if findings.len() == 0 {
             return;
         }
-        self.batch.clear();
-        findings.take_turn(&mut self.batch);
-        self.take_batch();
-    }
-
-    // Takes the findings of the runs in the batch, one run after the other.
-    fn take_batch(&mut self)
-        requires { All HoldsItems self.old.batch.items }
-        ensures watches { WatchesMore self.old (all_items finding_at self.old.batch.items)
-            self.new }
-        ensures settled { StaysSettled self.old self.new }
-        ensures kept { TakesFindings self.old self.new }
-    {
-        for place in 0..self.batch.len() {
-            let run = self.batch.as_slice()[place];
-            self.take_run(&run);
+        if findings.fits_turn() {
+            self.take_all(findings);
+        } else {
+            self.take_first(findings);
         }
     }
 
-    // Takes the findings of a run. All that tell of zones tell the same of them at the same tick, so one is as good as
-    // all.
-    fn take_run(&mut self, run: &Run<FindingGroup>)
-        requires { HasShortCount run.now }
-        ensures watches { WatchesMore self.old (items_of finding_at run.now) self.new }
+    // Takes all findings, where a turn moves all, from where they lie.
+    fn take_all(&mut self, findings: &mut Lane<FindingGroup>)
+        requires { length findings.old.items ≤ findings.old.quota }
+        ensures watches { WatchesMore self.old (moved_from findings.old) self.new }
         ensures settled { StaysSettled self.old self.new }
         ensures kept { TakesFindings self.old self.new }
-        ensures batch { self.new.batch ≡ self.old.batch }
+        ensures lane { findings.new ≡ after_turn findings.old }
     {
-        self.points.take_run(run);
-        let Some(place) = run.first.first_telling(run.taken, run.count) else {
-            return;
-        };
-        self.zones.take(&run.item(place));
+        let (front, back) = findings.runs();
+        take_runs(&mut self.points, &mut self.zones, front);
+        take_runs(&mut self.points, &mut self.zones, back);
+        findings.take_all();
+    }
+
+    // Takes the first findings, as many as a turn moves.
+    fn take_first(&mut self, findings: &mut Lane<FindingGroup>)
+        requires { findings.old.quota ≤ 32 }
+        ensures watches { WatchesMore self.old (moved_from findings.old) self.new }
+        ensures settled { StaysSettled self.old self.new }
+        ensures kept { TakesFindings self.old self.new }
+        ensures lane { findings.new ≡ after_turn findings.old }
+    {
+        self.batch.clear();
+        findings.take_turn(&mut self.batch);
+        take_runs(&mut self.points, &mut self.zones, self.batch.as_slice());
     }
 
     // Shows what follows at a tick, which isn't before that of the latest turn, and tells whether it is as before.
@@ -245,6 +244,42 @@ fn has_told(faults: &FaultSet, outside: &Outside) -> bool
         && outside.silent == faults.silent
         && outside.links == faults.links
         && outside.unconfirmed == faults.unconfirmed
+}
+
+ghost use Rattle.panel_conditions.specs.Changes.{WatchesPointsMore, WatchesZonesMore, ZonesStaySettled};
+
+// Takes the findings of runs, if there are any.
+fn take_runs(points: &mut Points, zones: &mut Zones, runs: &[Run<FindingGroup>])
+    requires { All HoldsItems runs.now }
+    ensures points { WatchesPointsMore points.old (all_items finding_at runs.now) points.new }
+    ensures zones { WatchesZonesMore zones.old (all_items finding_at runs.now) zones.new }
+    ensures settled { ZonesStaySettled zones.old zones.new }
+    ensures moved { zones.new.moved ≡ zones.old.moved }
+    ensures off { (points.new.off ≡ points.old.off) × (points.new.zone_off ≡ points.old.zone_off) }
+    ensures missing { points.new.changed ≡ false
+        → (points.old.changed ≡ false) × (points.new.missing ≡ points.old.missing) }
+{
+    if runs.len() == 0 {
+        return;
+    }
+    take_each(points, zones, runs);
+}
+
+// Takes the findings of runs, one run after the other.
+fn take_each(points: &mut Points, zones: &mut Zones, runs: &[Run<FindingGroup>])
+    requires { All HoldsItems runs.now }
+    ensures points { WatchesPointsMore points.old (all_items finding_at runs.now) points.new }
+    ensures zones { WatchesZonesMore zones.old (all_items finding_at runs.now) zones.new }
+    ensures settled { ZonesStaySettled zones.old zones.new }
+    ensures moved { zones.new.moved ≡ zones.old.moved }
+    ensures off { (points.new.off ≡ points.old.off) × (points.new.zone_off ≡ points.old.zone_off) }
+    ensures missing { points.new.changed ≡ false
+        → (points.old.changed ≡ false) × (points.new.missing ≡ points.old.missing) }
+{
+    for run in runs {
+        points.take_run(run);
+        zones.take_run(run);
+    }
 }
 
 ghost use Rattle.site_types.specs.Done.{is_mute as mutes_all};

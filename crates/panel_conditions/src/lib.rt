@@ -32,6 +32,7 @@ mod points;
 mod shown;
 mod sign;
 mod signs;
+mod told_missing;
 mod zone_watch;
 mod zones;
 

@@ -1,4 +1,4 @@
-ghost use Rattle.std.specs.Prelude.{◌≡◌, ◌≢◌, ◌⊎◌, ◌-◌, ◌++◌, ◌∷◌, ℕ, Bool, List, true, false};
+ghost use Rattle.std.specs.Prelude.{◌≡◌, ◌-◌, ◌∷◌, ℕ, true, false};
 ghost use Rattle.std.specs.Prelude.{IfOk, Some, option_copied, map, slice_get, slice_index};
 ghost use Rattle.site_types.specs.Bits.{has_bit, no_set};
 ghost use Rattle.site_types.specs.Valid.{IsValid};
@@ -9,6 +9,7 @@ use crate::asked::Asked;
 use crate::loop_address::LoopAddress;
 use crate::point_sets::{put, without};
 use crate::point_switch::PointSwitch;
+use crate::told_missing::ToldMissing;
 use answer_lanes::{FindingGroup, Run};
 use coincidence_rules::Finding;
 use site_types::{Item, Operation, Point, PointSet, Retained, Site, Zone, has_bit_32};
@@ -26,8 +27,8 @@ pub struct Points {
     missing: PointSet,
     /// Whether these may be others than when they were shown last.
     changed: bool,
-    /// Whether the last finding of each point of the site told it missing, by its place.
-    told: Vec<bool>,
+    /// What the last finding of each point of the site told of it.
+    told: ToldMissing,
     off: PointSwitch,
     zone_off: PointSwitch,
 }
@@ -36,7 +37,7 @@ impl Points {
     ghost use Rattle.panel_conditions.specs.PointSets.{address_in};
     ghost use Rattle.panel_conditions.specs.Parts.{item_set, points_done, points_shown, points_taken};
     ghost use Rattle.panel_conditions.specs.Changes.{WatchesPointsMore};
-    ghost use Rattle.panel_conditions.specs.Stands.{AreTold, WatchesPoints};
+    ghost use Rattle.panel_conditions.specs.Stands.{WatchesPoints};
 
     /// The points of a panel, of which nothing was found, with what is retained in force.
     pub fn new(alloc: Global, site: &Site, panel: u8, kept: &Retained) -> Result<Points, NoMemory>
@@ -47,7 +48,7 @@ impl Points {
         let of_zones = sets_of_zones(alloc, site, panel)?;
         let off = PointSwitch::new(points_that(site, panel, kept, Asked::Disabled));
         let zone_off = PointSwitch::new(points_that(site, panel, kept, Asked::ZoneDisabled));
-        let told = vec![in alloc; false; site.points.len()]?;
+        let told = ToldMissing::none(alloc, site.points.len())?;
         Ok(Points {
             addresses,
             of_zones,
@@ -67,11 +68,11 @@ impl Points {
             → (self.old.changed ≡ false) × (self.new.missing ≡ self.old.missing) }
     {
         let place = finding.point as usize;
-        if self.has_told(place, finding.missing) {
+        if self.told.has(place, finding.missing) {
             return;
         }
         self.put_missing(finding);
-        self.mark(place, finding.missing);
+        self.told.mark(place, finding.missing);
     }
 
     /// Takes note of the findings of a run. Where each tells of its point what was told of it last, nothing changes.
@@ -82,38 +83,11 @@ impl Points {
         ensures missing { self.new.changed ≡ false
             → (self.old.changed ≡ false) × (self.new.missing ≡ self.old.missing) }
     {
-        if self.have_told(run) {
+        if self.told.has_run(run) {
             return;
         }
         for place in run.taken..run.taken + run.count {
             self.take(&run.item(place));
-        }
-    }
-
-    // Whether the last finding of each point of a run told it missing, or not, as the run does. Points past the last
-    // place that has a number don't count as told.
-    fn have_told(&self, run: &Run<FindingGroup>) -> bool
-        requires { HasShortCount run.now }
-        ensures { result ≡ true → AreTold self.now.told.items run.now }
-    {
-        let first = run.first.point as usize + run.taken as usize;
-        let end = first + run.count as usize;
-        if end > 65_536 {
-            return false;
-        }
-        match self.told.get(first..end) {
-            Some(told) => are_as(told, &run.first, run.taken),
-            None => false,
-        }
-    }
-
-    // Whether the last finding of a point told it missing, or not, as this one does.
-    fn has_told(&self, place: usize, missing: bool) -> bool
-        ensures { result ≡ true → slice_get self.now.told.items place ≡ Some missing }
-    {
-        match self.told.get(place) {
-            Some(told) => *told == missing,
-            None => false,
         }
     }
 
@@ -124,21 +98,6 @@ impl Points {
         let address = self.address_of(finding.point);
         put(&mut self.missing, address, finding.missing);
         self.changed = true;
-    }
-
-    // Marks what the finding of a point told.
-    fn mark(&mut self, place: usize, missing: bool)
-        ensures told { (k : ℕ) (b : Bool) → slice_get self.new.told.items k ≡ Some b
-            → ((k ≡ place) × (missing ≡ b))
-            ⊎ ((k ≢ place) × (slice_get self.old.told.items k ≡ Some b)) }
-        ensures kept { (self.new.addresses ≡ self.old.addresses)
-            × (self.new.of_zones ≡ self.old.of_zones) × (self.new.missing ≡ self.old.missing) }
-        ensures changed { self.new.changed ≡ self.old.changed }
-        ensures off { (self.new.off ≡ self.old.off) × (self.new.zone_off ≡ self.old.zone_off) }
-    {
-        if place < self.told.len() {
-            self.told[place] = missing;
-        }
     }
 
     /// Takes note of an operation that was done in a tick.
@@ -202,24 +161,7 @@ impl Points {
     }
 }
 
-ghost use Rattle.std.specs.Prelude.{◌<◌, ◌≤◌, ◌+◌, [], length, option_map};
-
-// Whether all marks are those of a group's points, from the one at a place on. It looks at each, so that many are
-// looked at together.
-fn are_as(marks: &[bool], group: &FindingGroup, from: u8) -> bool
-    requires { from + length marks.now ≤ 255 }
-    ensures { result ≡ true → (k : ℕ) → k < length marks.now
-        → slice_get marks.now k ≡ Some (has_bit group.now.missing (from + k)) }
-{
-    let mut all = true;
-    let mut place = from;
-    for each in marks {
-        all &= *each == group.is_missing(place);
-        place += 1;
-    }
-    all
-}
-
+ghost use Rattle.std.specs.Prelude.{[], length, option_map};
 ghost use Rattle.site_types.specs.Changes.{HasOwnPlaces, IsNumber, IsPanelNumber};
 ghost use Rattle.site_types.specs.Bits.{IsPlace};
 ghost use Rattle.site_types.specs.Done.{kept_point, kept_zone};

@@ -59,10 +59,10 @@ impl ZoneWatch {
         let told = has(finding.counted, self.bit) && !manual;
         let confirmed = has(finding.confirmed, self.bit);
         let released = has(finding.released, self.bit);
-        self.confirmed = later_if(confirmed, finding.stamp, self.confirmed);
-        self.called = later_if(manual, finding.stamp, self.called);
-        self.released = later_if(released, finding.stamp, self.released);
-        self.told = later_if(told, finding.stamp, self.told);
+        raise_if(confirmed, finding.stamp, &mut self.confirmed);
+        raise_if(manual, finding.stamp, &mut self.called);
+        raise_if(released, finding.stamp, &mut self.released);
+        raise_if(told, finding.stamp, &mut self.told);
     }
 
     /// Takes note of an operation that was done in a tick.
@@ -118,14 +118,12 @@ fn has(mask: u32, bit: u8) -> bool
     bit < 32 && has_bit_32(mask, bit)
 }
 
-// The later of two stamps, where something was told at the first one.
-fn later_if(on: bool, stamp: Tick, latest: Tick) -> Tick
-    ensures { result ≡ stamp_if on stamp latest }
+// Makes a stamp the latest one, where something was told at it and it is later.
+fn raise_if(on: bool, stamp: Tick, latest: &mut Tick)
+    ensures { latest.new ≡ stamp_if on stamp latest.old }
 {
     if on && latest.0 < stamp.0 {
-        stamp
-    } else {
-        latest
+        *latest = stamp;
     }
 }
 

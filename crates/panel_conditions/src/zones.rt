@@ -1,11 +1,14 @@
 ghost use Rattle.std.specs.Prelude.{◌≡◌, ◌-◌, ◌^◌, ◌<◌, ◌≤◌, ℕ, map, length, slice_get, bit_or, nat_lt};
 ghost use Rattle.std.specs.Prelude.{if◌then◌else◌, IfOk, option_copied, option_map, true};
 ghost use Rattle.coincidence_rules.specs.Places.{numbered};
+ghost use Rattle.answer_lanes.specs.Points.{finding_at};
+ghost use Rattle.answer_lanes.specs.Runs.{HasShortCount, items_of};
 
 use crate::next_bit::next_bit;
 use crate::sign::Sign;
 use crate::signs::Signs;
 use crate::zone_watch::ZoneWatch;
+use answer_lanes::{FindingGroup, Run};
 use coincidence_rules::Finding;
 use site_types::{Operation, Rule, Site, Zone, with_bit_32};
 use std::alloc::Global;
@@ -29,6 +32,7 @@ pub struct Zones {
 impl Zones {
     ghost use Rattle.panel_conditions.specs.Parts.{drawn_mask, later_tick, signs_at, told_by, watch_shows, zone_done};
     ghost use Rattle.panel_conditions.specs.Parts.{Marks, zone_taken, zone_taken_at};
+    ghost use Rattle.panel_conditions.specs.Changes.{WatchesZonesMore, ZonesStaySettled};
     ghost use Rattle.panel_conditions.specs.Stands.{AreNumbered, Settled, first_watch, are_first_watches};
 
     /// The zones of a panel, of which nothing was told.
@@ -48,8 +52,25 @@ impl Zones {
         })
     }
 
-    /// Takes note of a finding.
-    pub fn take(&mut self, finding: &Finding)
+    /// Takes note of the findings of a run. All that tell of zones tell the same of them at the same tick, so one is as
+    /// good as all.
+    pub fn take_run(&mut self, run: &Run<FindingGroup>)
+        requires { HasShortCount run.now }
+        ensures watches { WatchesZonesMore self.old (items_of finding_at run.now) self.new }
+        ensures settled { ZonesStaySettled self.old self.new }
+        ensures moved { self.new.moved ≡ self.old.moved }
+    {
+        if tells_no_zone(&run.first) {
+            return;
+        }
+        let Some(place) = run.first.first_telling(run.taken, run.count) else {
+            return;
+        };
+        self.take(&telling_at(&run.first, place));
+    }
+
+    // Takes note of a finding.
+    fn take(&mut self, finding: &Finding)
         ensures watches { AreNumbered self.old.watches.items → (k : ℕ)
             → slice_get self.new.watches.items k ≡ option_map (zone_taken finding.now)
             (slice_get self.old.watches.items k) }
@@ -130,8 +151,33 @@ impl Zones {
         ensures settled { (tick : ℕ) → Settled tick self.old → tick ≤ now.0
             → Settled now.0 self.new }
     {
-        self.signs = self.signs_drawn(now);
+        self.draw_signs(now);
         self.changed = changed_after(self.moved, now);
+    }
+
+    // Draws anew what the zones to look at show. All others show what they did.
+    fn draw_signs(&mut self, now: Tick)
+        ensures rest { (self.new.watches ≡ self.old.watches) × (self.new.moved ≡ self.old.moved)
+            × (self.new.changed ≡ self.old.changed) }
+        ensures signs { (tick : ℕ) → Settled tick self.old → tick ≤ now.0
+            → self.new.signs ≡ signs_at now.0 self.old.watches.items }
+    {
+        let Signs {
+            alarm,
+            manual,
+            released,
+            first,
+        } = self.signs;
+        let look = self.changed | first;
+        if look == 0 {
+            return;
+        }
+        self.signs = Signs {
+            alarm: self.drawn(Sign::Alarm, alarm, look, now),
+            manual: self.drawn(Sign::Manual, manual, look, now),
+            released: self.drawn(Sign::Released, released, look, now),
+            first: self.drawn(Sign::First, first, look, now),
+        };
     }
 
     /// The tick of the latest operation.
@@ -146,29 +192,6 @@ impl Zones {
         ensures { result ≡ self.now.signs }
     {
         self.signs
-    }
-
-    // What the zones show at a tick: drawn anew for the zones to look at, as it was for all others.
-    fn signs_drawn(&self, now: Tick) -> Signs
-        ensures { (tick : ℕ) → Settled tick self.now → tick ≤ now.0
-            → result ≡ signs_at now.0 self.now.watches.items }
-    {
-        let Signs {
-            alarm,
-            manual,
-            released,
-            first,
-        } = self.signs;
-        let look = self.changed | first;
-        if look == 0 {
-            return self.signs;
-        }
-        Signs {
-            alarm: self.drawn(Sign::Alarm, alarm, look, now),
-            manual: self.drawn(Sign::Manual, manual, look, now),
-            released: self.drawn(Sign::Released, released, look, now),
-            first: self.drawn(Sign::First, first, look, now),
-        }
     }
 
     // The mask of a sign: drawn anew for the zones to look at, as it was for all others.
@@ -195,8 +218,34 @@ impl Zones {
     }
 }
 
-ghost use Rattle.panel_conditions.specs.Parts.{IsShown, told_by};
+ghost use Rattle.site_types.specs.Bits.{has_bit};
+ghost use Rattle.panel_conditions.specs.Parts.{IsShown, TellsNoZone, told_by};
 ghost use Rattle.panel_conditions.specs.Stands.{first_watch, within_of, within_rule};
+
+// Whether no finding of a group tells of a zone.
+fn tells_no_zone(group: &FindingGroup) -> bool
+    ensures { result ≡ true → TellsNoZone group.now }
+{
+    group.telling == 0
+        || (group.counted == 0
+            && (group.confirmed == 0 && (group.manual == 0 && group.released == 0)))
+}
+
+// The finding at a place of a group where one tells of zones.
+fn telling_at(group: &FindingGroup, place: u8) -> Finding
+    requires { has_bit group.now.telling place ≡ true }
+    ensures { result ≡ finding_at group.now place }
+{
+    Finding {
+        stamp: group.stamp,
+        point: group.point.saturating_add(place as u16),
+        counted: group.counted,
+        confirmed: group.confirmed,
+        manual: group.manual,
+        released: group.released,
+        missing: group.is_missing(place),
+    }
+}
 
 // Whether a finding tells nothing but what is shown.
 fn is_shown(finding: &Finding, signs: &Signs) -> bool

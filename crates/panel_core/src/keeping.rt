@@ -51,6 +51,7 @@ impl System {
     }
 
     // What is left to keep, where there is anything, is committed: here alone room is made for a batch.
+    #[cold]
     fn commit_left<D: Disk>(&self, entries: &[u64; 8], journal: &mut Journal, disk: &mut D) -> Store
         requires may { MayKeep journal.old self.now }
         requires stands { Stands D.honest D.images disk.old journal.old }

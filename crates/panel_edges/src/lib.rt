@@ -55,6 +55,7 @@ mod streams;
 mod syncing;
 mod writing;
 
+pub use call_counts::count_call;
 pub use disk_call::DiskCall;
 pub use disks::Disk;
 pub use failed::Failed;

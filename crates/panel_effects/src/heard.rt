@@ -8,7 +8,8 @@ use panel_links::Ring;
 use site_types::{Word, with_bit_8};
 
 /// The facts that a turn of Effect of a panel made now goes by: what the words that the panel keeps of the panels
-/// of the ring say of zones, and which of them tell a fault.
+/// of the ring say of zones, and which of them tell a fault. It isn't inlined, since the usual turns hear nothing new.
+#[inline(never)]
 pub fn facts_heard(ring: &Ring, panels: u8, panel: u8) -> Facts
     requires size { ring.now.panels ≡ panels }
     requires member { HasPanel ring.now panel }

@@ -3,7 +3,7 @@ use Rattle.std.specs.Prelude.{◌≡◌, ◌≢◌, ◌==◌, ◌&&◌, ℕ, if�
 use Rattle.site_types.specs.declared.word.Word.{Word}
 use Rattle.panel_links.specs.declared.ring.Ring.{Ring}
 use Rattle.panel_links.specs.Kept.{HasZonesOf, newest}
-use Rattle.panel_links.specs.Stands.{HasPanel, kept_in}
+use Rattle.panel_links.specs.Stands.{HasPanel, kept_in, newest_of}
 use Rattle.panel_links.specs.Words.{carries}
 
 -- a panel keeps the newest of what it and two others keep of the panels of the tick's group; all else stays
@@ -14,6 +14,13 @@ TakesNewest old at left right tick ring =
     ≡ (if (a == at) && carries old.panels tick o
     then newest (newest (kept_in old a o) (kept_in old left o)) (kept_in old right o)
     else kept_in old a o)
+
+-- a panel keeps the newest of what it and two others keep of one; all else stays
+abbrev pub TakesNewestOf : Ring → ℕ → ℕ → ℕ → ℕ → Ring → Type 0
+TakesNewestOf old at left right of ring =
+    (a o : ℕ) → HasPanel old a → HasPanel old o
+    → kept_in ring a o
+    ≡ (if (a == at) && (o == of) then newest_of old at left right of else kept_in old a o)
 
 -- a panel keeps a word of a panel if it is newer; all else stays
 abbrev pub KeepsNewest : Ring → ℕ → ℕ → Word → Ring → Type 0

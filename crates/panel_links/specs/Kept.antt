@@ -1,5 +1,6 @@
 -- What each panel keeps of each other one, turn by turn.
-use Rattle.std.specs.Prelude.{◌≡◌, ℕ, ◌==◌, ◌&&◌, nat_lt, Bool, List, [], ◌∷◌, if◌then◌else◌}
+use Rattle.std.specs.Prelude.{◌≡◌, ℕ, ◌-◌, ◌≤◌, ◌==◌, ◌&&◌, nat_lt, Bool, List, [], ◌∷◌, if◌then◌else◌}
+use Rattle.std.specs.Prelude.{slice_index, slice_index_or}
 use Rattle.site_types.specs.declared.word.Word.{Word}
 use Rattle.panel_links.specs.Words.{Call, Linked, Took, carries, is_up, left_of, right_of}
 use Rattle.site_types.specs.Words.{empty_word}
@@ -7,6 +8,13 @@ use Rattle.site_types.specs.Words.{empty_word}
 -- the newer of two words by stamp; of two of one stamp the first, which is the one that was kept
 abbrev pub newest : Word → Word → Word
 newest kept other = if nat_lt kept.stamp.0 other.stamp.0 then other else kept
+
+-- no word that a panel keeps is older than a tick, by panel
+abbrev pub NoneOlder : ℕ → List (List Word) → List ℕ → Type 0
+NoneOlder panels words oldest =
+    (at from : ℕ) → (1 ≤ at) × (at ≤ panels) → (1 ≤ from) × (from ≤ panels)
+    → slice_index oldest (at - 1)
+    ≤ (slice_index_or (slice_index_or words (at - 1) []) (from - 1) empty_word).stamp.0
 
 -- a word tells of the same zones in alarm and in first state as another
 pub record HasZonesOf (word other : Word) : Type 0 where

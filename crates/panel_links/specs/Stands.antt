@@ -1,11 +1,12 @@
 -- What a ring keeps of the calls that were made.
-use Rattle.std.specs.Prelude.{◌≡◌, ℕ, ◌-◌, ◌≤◌, ◌&&◌, ◌||◌, ◌==◌, nat_le, nat_lt, not, Bool, false, List, []}
+use Rattle.std.specs.Prelude.{◌≡◌, ℕ, ◌-◌, ◌≤◌, ◌&&◌, ◌||◌, ◌==◌, nat_le, nat_lt, not, Bool, List, []}
 use Rattle.std.specs.Prelude.{slice_index_or}
 use Rattle.site_types.specs.declared.word.Word.{Word}
 use Rattle.panel_links.specs.declared.ring.Ring.{Ring}
 use Rattle.panel_links.specs.Words.{Call, is_up, left_of}
+use Rattle.site_types.specs.Bits.{has_bit}
 use Rattle.site_types.specs.Words.{empty_word}
-use Rattle.panel_links.specs.Kept.{kept_word}
+use Rattle.panel_links.specs.Kept.{kept_word, newest}
 
 -- a number of the ring's panels
 abbrev pub HasPanel : Ring → ℕ → Type 0
@@ -15,9 +16,13 @@ HasPanel ring panel = (1 ≤ panel) × (panel ≤ ring.panels)
 abbrev pub kept_in : Ring → ℕ → ℕ → Word
 kept_in ring at from = slice_index_or (slice_index_or ring.words (at - 1) []) (from - 1) empty_word
 
+-- the newest word that three panels keep of one
+abbrev pub newest_of : Ring → ℕ → ℕ → ℕ → ℕ → Word
+newest_of ring at left right of = newest (newest (kept_in ring at of) (kept_in ring left of)) (kept_in ring right of)
+
 -- whether a link is up
 abbrev pub is_up_in : Ring → ℕ → Bool
-is_up_in ring link = slice_index_or ring.up (link - 1) false
+is_up_in ring link = not (has_bit ring.down (link - 1))
 
 -- a ring of so many panels stands for the calls, the newest first
 pub record StandsFor (panels : ℕ) (calls : List Call) (ring : Ring) : Type 0 where

@@ -4,29 +4,33 @@ ghost use Rattle.site_types.specs.Bits.{mask_of};
 ghost use Rattle.panel_links.specs.Words.{Call, Linked, Took, IsHeard, IsNewest, OwnStampsRise};
 ghost use Rattle.site_types.specs.Words.{empty_word};
 ghost use Rattle.panel_links.specs.Words.{group_of, left_of, right_of};
-ghost use Rattle.panel_links.specs.Kept.{HasZonesOf, kept_word, newest};
+ghost use Rattle.panel_links.specs.Kept.{HasZonesOf, NoneOlder, kept_word, newest};
 ghost use Rattle.panel_links.specs.Frames.{after_frame, frame_of};
 
 use crate::frame::Frame;
-use site_types::{Word, mask_from_8, with_bit_8};
+use site_types::{Word, has_bit_8, with_bit_8};
 use tick_units::Tick;
 
 /// What each panel of a ring keeps of each other one, and which links are up.
 #[derive(Drop)]
 pub struct Ring {
     panels: u8,
-    /// By link, link 1 being the first.
-    up: [bool; 8],
+    /// The links that are down, by bit `link - 1`.
+    down: u8,
     /// By the panel that keeps and the panel whose word it is, panel 1 being the first.
     words: [[Word; 8]; 8],
+    /// By panel, a tick that no word which it keeps is older than.
+    oldest: [u64; 8],
     ghost some: { 1 ≤ panels },
     ghost few: { panels ≤ 8 },
+    ghost none_older: { NoneOlder panels words oldest },
     ghost wide: { (k : ℕ) → k < 8 → length (slice_index_or words k []) ≡ 8 },
 }
 
 impl Ring {
-    ghost use Rattle.panel_links.specs.Changes.{KeepsNewest, KeepsZones, TakesNewest};
+    ghost use Rattle.panel_links.specs.Changes.{KeepsNewest, KeepsZones, TakesNewest, TakesNewestOf};
     ghost use Rattle.panel_links.specs.Stands.{HasPanel, StandsFor, is_down_at, is_silent, is_up_in, kept_in};
+    ghost use Rattle.panel_links.specs.Stands.{newest_of};
 
     /// A ring of 1 to 8 panels. All links are up, and nothing was heard.
     pub fn new(panels: u8) -> Ring
@@ -36,8 +40,9 @@ impl Ring {
     {
         Ring {
             panels,
-            up: [true; 8],
+            down: 0,
             words: [[Word::default(); 8]; 8],
+            oldest: [0; 8],
         }
     }
 
@@ -48,7 +53,7 @@ impl Ring {
             → StandsFor panels (Linked link up ∷ calls) self.new }
         ensures panels { self.new.panels ≡ self.old.panels }
     {
-        self.up[link as usize - 1] = up;
+        self.down = with_bit_8(self.down, link - 1, !up);
     }
 
     /// Makes the turn of a panel in a tick: it keeps its own word, then takes what is newer from its neighbours.
@@ -71,6 +76,7 @@ impl Ring {
         ensures zones { result ≡ false → KeepsZones self.old panel self.new }
     {
         self.keep(panel, panel, own);
+        self.renew_oldest(panel, now);
         if self.panels == 1 {
             return false;
         }
@@ -112,16 +118,15 @@ impl Ring {
         ensures { (panels : ℕ) (calls : List Call) → StandsFor panels calls self.now
             → result ≡ mask_of 8 (λ k. is_down_at panels panel calls (k + 1)) }
     {
-        let left = self.left_of(panel);
-        if self.up[panel as usize - 1] && self.up[left as usize - 1] {
+        if self.down == 0 {
             return 0;
         }
-        let mut down = [false; 8];
-        for link in 1..9 {
-            let own = self.panels > 1 && (link == panel || link == left);
-            down[link as usize - 1] = own && !self.up[link as usize - 1];
+        if self.panels == 1 {
+            return 0;
         }
-        mask_from_8(&down)
+        let left = self.left_of(panel);
+        let own = with_bit_8(0, panel - 1, !self.is_up(panel));
+        with_bit_8(own, left - 1, !self.is_up(left))
     }
 
     /// The panels of which a panel has heard nothing newer for more ticks than the limit, by bit `panel - 1`.
@@ -130,9 +135,19 @@ impl Ring {
         ensures { (panels : ℕ) (calls : List Call) → StandsFor panels calls self.now
             → result ≡ mask_of 8 (λ k. is_silent panels panel calls now.0 limit (k + 1)) }
     {
-        if self.has_heard_all(panel, now.0.saturating_sub(limit)) {
+        if self.oldest[panel as usize - 1] >= now.0.saturating_sub(limit) {
             return 0;
         }
+        self.silent_by_word(panel, now, limit)
+    }
+
+    // The panels of which a panel has heard nothing newer for more ticks than the limit, word by word.
+    #[inline(never)]
+    fn silent_by_word(&self, panel: u8, now: Tick, limit: u64) -> u8
+        requires { HasPanel self.now panel }
+        ensures { (panels : ℕ) (calls : List Call) → StandsFor panels calls self.now
+            → result ≡ mask_of 8 (λ k. is_silent panels panel calls now.0 limit (k + 1)) }
+    {
         let mut silent = 0;
         for of in 1..self.panels + 1 {
             let heard = self.heard(panel, of);
@@ -143,18 +158,30 @@ impl Ring {
         silent
     }
 
-    // Whether the words that a panel keeps are all of that tick or of a later one.
-    fn has_heard_all(&self, panel: u8, earliest: u64) -> bool
-        requires { HasPanel self.now panel }
-        ensures { result ≡ true → (of : ℕ) → HasPanel self.now of
-            → earliest ≤ (kept_in self.now panel of).stamp.0 }
+    // Looks now and then how old the oldest word is that a panel keeps, since words become newer.
+    fn renew_oldest(&mut self, panel: u8, now: Tick)
+        requires { HasPanel self.old panel }
+        ensures words { (a o : ℕ) → kept_in self.new a o ≡ kept_in self.old a o }
+        ensures panels { self.new.panels ≡ self.old.panels }
+        ensures links { self.new.down ≡ self.old.down }
     {
-        for of in 1..self.panels + 1 {
-            if self.kept(panel, of).stamp.0 < earliest {
-                return false;
-            }
+        if now.0 % 16 == 0 {
+            self.find_oldest(panel);
         }
-        true
+    }
+
+    #[inline(never)]
+    fn find_oldest(&mut self, panel: u8)
+        requires { HasPanel self.old panel }
+        ensures words { (a o : ℕ) → kept_in self.new a o ≡ kept_in self.old a o }
+        ensures panels { self.new.panels ≡ self.old.panels }
+        ensures links { self.new.down ≡ self.old.down }
+    {
+        let mut oldest = self.kept(panel, 1).stamp.0;
+        for of in 2..self.panels + 1 {
+            oldest = oldest.min(self.kept(panel, of).stamp.0);
+        }
+        self.oldest[panel as usize - 1] = oldest;
     }
 
     /// What a panel sends over its links in a tick.
@@ -184,7 +211,7 @@ impl Ring {
             → kept_in self.new a o ≡ after_frame at frame.now.group frame.now.words a o
             (kept_in self.old a o) }
         ensures panels { self.new.panels ≡ self.old.panels }
-        ensures links { self.new.up ≡ self.old.up }
+        ensures links { self.new.down ≡ self.old.down }
     {
         let first = 4 * frame.group + 1;
         self.take(at, first, frame.words[0]);
@@ -212,14 +239,18 @@ impl Ring {
         requires { (1 ≤ link) × (link ≤ 8) }
         ensures { result ≡ (if is_up_in self.now link then neighbour else panel) }
     {
-        if self.up[link as usize - 1] {
-            neighbour
-        } else {
-            panel
-        }
+        if self.is_up(link) { neighbour } else { panel }
+    }
+
+    fn is_up(&self, link: u8) -> bool
+        requires { (1 ≤ link) × (link ≤ 8) }
+        ensures { result ≡ is_up_in self.now link }
+    {
+        !has_bit_8(self.down, link - 1)
     }
 
     // Takes the newest of what three panels keep of those of the tick's group, and tells whether zones are others.
+    #[inline(never)]
     fn take_newest(&mut self, at: u8, left: u8, right: u8, now: Tick) -> bool
         requires at { HasPanel self.old at }
         requires left { HasPanel self.old left }
@@ -227,18 +258,54 @@ impl Ring {
         ensures words { TakesNewest self.old at left right now.0 self.new }
         ensures zones { result ≡ false → KeepsZones self.old at self.new }
         ensures panels { self.new.panels ≡ self.old.panels }
-        ensures links { self.new.up ≡ self.old.up }
+        ensures links { self.new.down ≡ self.old.down }
     {
         let first = 4 * self.group(now) + 1;
         let mut differ = false;
         for of in first..first + 4 {
-            let kept = self.kept(at, of);
-            let by_left = self.kept(left, of);
-            let by_right = self.kept(right, of);
-            let word = newer(newer(kept, by_left), by_right);
-            self.keep(at, of, word);
-            differ |= has_other_zones(&word, &kept);
+            differ |= self.take_newer(at, left, right, of);
         }
+        differ
+    }
+
+    // Takes the newest of what three panels keep of one, and tells whether its zones are others.
+    fn take_newer(&mut self, at: u8, left: u8, right: u8, of: u8) -> bool
+        requires at { HasPanel self.old at }
+        requires left { HasPanel self.old left }
+        requires right { HasPanel self.old right }
+        requires from { (1 ≤ of) × (of ≤ 8) }
+        ensures words { TakesNewestOf self.old at left right of self.new }
+        ensures zones { result ≡ false
+            → HasZonesOf (newest_of self.old at left right of) (kept_in self.old at of) }
+        ensures panels { self.new.panels ≡ self.old.panels }
+        ensures links { self.new.down ≡ self.old.down }
+    {
+        let by_left = self.kept(left, of).stamp.0;
+        let by_right = self.kept(right, of).stamp.0;
+        if by_left < by_right {
+            self.take_from(at, right, of)
+        } else {
+            self.take_from(at, left, of)
+        }
+    }
+
+    // Takes what another panel keeps of one if it is newer, and tells whether its zones are others.
+    fn take_from(&mut self, at: u8, source: u8, of: u8) -> bool
+        requires at { HasPanel self.old at }
+        requires source { HasPanel self.old source }
+        requires from { (1 ≤ of) × (of ≤ 8) }
+        ensures words { KeepsNewest self.old at of (kept_in self.old source of) self.new }
+        ensures zones { result ≡ false
+            → HasZonesOf (newest (kept_in self.old at of) (kept_in self.old source of))
+            (kept_in self.old at of) }
+        ensures panels { self.new.panels ≡ self.old.panels }
+        ensures links { self.new.down ≡ self.old.down }
+    {
+        if self.kept(at, of).stamp.0 >= self.kept(source, of).stamp.0 {
+            return false;
+        }
+        let differ = has_other_zones(&self.kept(source, of), &self.kept(at, of));
+        self.words[at as usize - 1][of as usize - 1] = self.kept(source, of);
         differ
     }
 
@@ -259,7 +326,7 @@ impl Ring {
         requires from { 1 ≤ of }
         ensures words { KeepsNewest self.old at of word self.new }
         ensures panels { self.new.panels ≡ self.old.panels }
-        ensures links { self.new.up ≡ self.old.up }
+        ensures links { self.new.down ≡ self.old.down }
     {
         if of <= self.panels {
             let kept = self.kept(at, of);
@@ -295,9 +362,12 @@ impl Ring {
             → kept_in self.new a o
             ≡ (if (a == at) && (o == of) then word else kept_in self.old a o) }
         ensures panels { self.new.panels ≡ self.old.panels }
-        ensures links { self.new.up ≡ self.old.up }
+        ensures links { self.new.down ≡ self.old.down }
     {
-        self.words[at as usize - 1][of as usize - 1] = word;
+        let place = at as usize - 1;
+        let source = of as usize - 1;
+        self.words[place][source] = word;
+        self.oldest[place] = self.oldest[place].min(self.words[place][source].stamp.0);
     }
 }
 

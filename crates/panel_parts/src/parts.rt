@@ -1,4 +1,5 @@
-ghost use Rattle.std.specs.Prelude.{◌≡◌, ◌≤◌, IfOk, true};
+ghost use Rattle.std.specs.Prelude.{◌≡◌, ◌≤◌, [], ◌∷◌, IfOk, false, slice_index_or, true};
+ghost use Rattle.site_types.specs.Bits.{mask_of};
 ghost use Rattle.site_types.specs.Valid.{IsValid};
 ghost use Rattle.site_types.specs.Changes.{IsNumber};
 ghost use Rattle.loop_poller.specs.Stands.{HasPoint};
@@ -12,7 +13,7 @@ use operation_desk::DoneOperation;
 use output_drive::Drive;
 use panel_conditions::{Hold, Outside};
 use panel_effects::Effects;
-use site_types::{PieceState, PointState, Retained, Site, SupplyKind, mask_from_8};
+use site_types::{PieceState, PointState, Retained, Site, SupplyKind};
 use std::alloc::Global;
 use supply_monitor::Supply;
 use tick_units::{NoMemory, Tick};
@@ -168,11 +169,19 @@ impl Parts {
         let fourth = self.poller.status(4);
         Outside {
             supply: self.supply.faults(),
-            broken: mask_from_8(&[first.broken, second.broken, third.broken, fourth.broken]),
-            shorted: mask_from_8(&[first.shorted, second.shorted, third.shorted, fourth.shorted]),
+            broken: loops_with(first.broken, second.broken, third.broken, fourth.broken),
+            shorted: loops_with(first.shorted, second.shorted, third.shorted, fourth.shorted),
             silent,
             links,
             unconfirmed: self.drive.unconfirmed(),
         }
     }
+}
+
+// The loops whose flag is set, bit `loop - 1` each.
+fn loops_with(first: bool, second: bool, third: bool, fourth: bool) -> u8
+    ensures { result
+        ≡ mask_of 4 (λ k. slice_index_or (first ∷ second ∷ third ∷ fourth ∷ []) k false) }
+{
+    first as u8 + 2 * (second as u8) + 4 * (third as u8) + 8 * (fourth as u8)
 }

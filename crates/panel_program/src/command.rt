@@ -1,4 +1,4 @@
-ghost use Rattle.std.specs.Prelude.{◌≡◌, ◌≤◌, true, map, string_bytes};
+ghost use Rattle.std.specs.Prelude.{◌≡◌, ◌≤◌, [], ◌∷◌, true, map, string_bytes};
 ghost use Rattle.panel_program.specs.Words.{IsBounded, command_of as command_by, drill_by, node_by, serving_by};
 ghost use Rattle.panel_program.specs.Words.{is_serving, most_connections, most_port};
 ghost use Rattle.site_types.specs.Numbers.{number_of};
@@ -16,7 +16,7 @@ const MOST_CONNECTIONS: u64 = 1_000_000;
 const MOST_PANELS: u64 = 8;
 
 /// What the words of a call ask for. The second word names the site, but for a drill.
-#[derive(Clone, Copy, Debug, PartialEq, Eq)]
+#[derive(Clone, Copy)]
 pub enum Command {
     /// Words that no command has.
     Usage,
@@ -43,41 +43,11 @@ pub fn command_of(words: &[String]) -> Command
     ensures bounded { IsBounded result }
 {
     match words {
-        [word, _site] => {
-            if word.as_str() == "check" {
-                Command::Check
-            } else if word.as_str() == "matrix" {
-                Command::Matrix
-            } else {
-                Command::Usage
-            }
-        }
-        [word, second, third] => {
-            if word.as_str() == "run" {
-                Command::Run
-            } else if word.as_str() == "drill" {
-                drill_of(second.as_str(), third.as_str())
-            } else {
-                Command::Usage
-            }
-        }
-        [word, _site, _third, _fourth] => {
-            if word.as_str() == "import" {
-                Command::Import
-            } else if word.as_str() == "audit" {
-                Command::Audit
-            } else {
-                Command::Usage
-            }
-        }
+        [word, _site] => check_or_matrix(word.as_str()),
+        [word, second, third] => run_or_drill(word.as_str(), second.as_str(), third.as_str()),
+        [word, _site, _third, _fourth] => import_or_audit(word.as_str()),
         [word, _second, _third, fourth, fifth] => {
-            if word.as_str() == "move" {
-                Command::Move
-            } else if word.as_str() == "serve" {
-                serving_of(fourth.as_str(), fifth.as_str())
-            } else {
-                Command::Usage
-            }
+            move_or_serve(word.as_str(), fourth.as_str(), fifth.as_str())
         }
         [word, _site, _journal, panel, port, count] => {
             if word.as_str() == "node" {
@@ -87,6 +57,62 @@ pub fn command_of(words: &[String]) -> Command
             }
         }
         _ => Command::Usage,
+    }
+}
+
+// The command of two words.
+fn check_or_matrix(word: &str) -> Command
+    ensures command { result ≡ command_by (word.now ∷ [] ∷ []) }
+    ensures bounded { IsBounded result }
+{
+    if word == "check" {
+        Command::Check
+    } else if word == "matrix" {
+        Command::Matrix
+    } else {
+        Command::Usage
+    }
+}
+
+// The command of three words.
+fn run_or_drill(word: &str, second: &str, third: &str) -> Command
+    ensures command { result ≡ command_by (word.now ∷ second.now ∷ third.now ∷ []) }
+    ensures bounded { IsBounded result }
+{
+    if word == "run" {
+        Command::Run
+    } else if word == "drill" {
+        drill_of(second, third)
+    } else {
+        Command::Usage
+    }
+}
+
+// The command of four words.
+fn import_or_audit(word: &str) -> Command
+    ensures command { result ≡ command_by (word.now ∷ [] ∷ [] ∷ [] ∷ []) }
+    ensures bounded { IsBounded result }
+{
+    if word == "import" {
+        Command::Import
+    } else if word == "audit" {
+        Command::Audit
+    } else {
+        Command::Usage
+    }
+}
+
+// The command of five words.
+fn move_or_serve(word: &str, port: &str, count: &str) -> Command
+    ensures command { result ≡ command_by (word.now ∷ [] ∷ [] ∷ port.now ∷ count.now ∷ []) }
+    ensures bounded { IsBounded result }
+{
+    if word == "move" {
+        Command::Move
+    } else if word == "serve" {
+        serving_of(port, count)
+    } else {
+        Command::Usage
     }
 }
 

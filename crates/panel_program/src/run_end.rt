@@ -5,7 +5,7 @@ use program_status::Status;
 use record_lines::{Refusal, Why};
 
 /// How the reading of a record came to its end.
-#[derive(Clone, Copy, Debug, PartialEq, Eq)]
+#[derive(Clone, Copy)]
 pub enum RunEnd {
     /// At its line `end`.
     Ended,

@@ -24,3 +24,5 @@ pub mod OpLines
 pub mod PrintedLines
 pub mod Openings
 pub mod ReadBack
+-- lines in front of a piece
+pub mod UsualLines

@@ -6,7 +6,7 @@ use Rattle.line_fields.proofs.Joined.{spaced}
 use Rattle.record_lines.specs.Printed.{joined, seat_text}
 
 -- one field more
-joined_push : (text : List ℕ) (fields : List (List ℕ)) (last : List ℕ) → joined text (fields ++ last ∷ []) ≡ joined text fields ++ 32 ∷ last
+pub joined_push : (text : List ℕ) (fields : List (List ℕ)) (last : List ℕ) → joined text (fields ++ last ∷ []) ≡ joined text fields ++ 32 ∷ last
 joined_push text [] last = refl
 joined_push text (first ∷ fields) last = joined_push (text ++ 32 ∷ first) fields last
 

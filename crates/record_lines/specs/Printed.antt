@@ -1,5 +1,6 @@
 -- The text of a line.
-use Rattle.std.specs.Prelude.{◌++◌, ℕ, Bool, true, false, List, [], ◌∷◌, map, codes, decimal, Option, Some, None}
+use Rattle.std.specs.Prelude.{◌≡◌, ◌+◌, ◌++◌, ℕ, Bool, true, false, List, [], ◌∷◌, length, map, take, codes, decimal}
+use Rattle.std.specs.Prelude.{Option, Some, None}
 use Rattle.site_types.specs.Things.{name_at}
 use Rattle.site_types.specs.declared.site.Site.{Site}
 use Rattle.site_types.specs.declared.event.Event.{Event}
@@ -141,3 +142,10 @@ line_text site (Tick tick) = joined (codes "tick") (decimal tick.0 ∷ [])
 line_text site (EventLine event) = event_text site event
 line_text site (Order seats) = joined (codes "order") (map seat_text seats)
 line_text site End = codes "end"
+
+-- ---- texts in front of a piece
+
+-- a piece begins with a text and a line end, which take so many bytes
+pub record HasInFront (text piece : List ℕ) (used : ℕ) : Type 0 where
+  pub all : used ≡ length text + 1
+  pub front : take used piece ≡ text ++ 10 ∷ []

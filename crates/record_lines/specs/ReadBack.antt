@@ -5,9 +5,11 @@ use Rattle.site_types.specs.Names.{is_code}
 use Rattle.site_types.specs.declared.site.Site.{Site}
 use Rattle.site_types.specs.declared.event.Event.{Event}
 use Rattle.site_types.specs.declared.event.Event.TheVariants.{Point, Cable, Supply, Link, Confirmed, Op}
+use Rattle.tick_units.specs.declared.seat.Seat.{Seat}
 use Rattle.record_lines.specs.Belongs.{Belongs}
 use Rattle.record_lines.specs.Judged.{line_view}
 use Rattle.record_lines.specs.Lines.{accepted, cut, reading_of}
+use Rattle.record_lines.specs.Printed.{HasInFront, line_text}
 use Rattle.record_lines.specs.Stands.{Feeds}
 use Rattle.record_lines.specs.declared.fed.Fed.{Fed}
 use Rattle.record_lines.specs.declared.reader.LineReader.{LineReader}
@@ -79,3 +81,15 @@ pub record IsReadAs (site : Site) (line : Line) (text before : List ℕ) : Type 
 abbrev pub ReadsBack : Site → Line → List ℕ → Type 0
 ReadsBack site line text = (before : List ℕ) → IsBetweenLines site before
     → MayCome site (reading_of site before).so_far line → IsReadAs site line text before
+
+-- a reader that has nothing of a line yet is given a piece that begins with this one, whose turn has come
+pub record Brings (site : Site) (reader : LineReader) (line : Line) (piece : List ℕ) (used : ℕ) : Type 0 where
+  pub fresh : reader.text.items ≡ []
+  pub text : HasInFront (line_text site line) piece used
+  pub may_come : MayCome site reader.so_far line
+
+-- the same for the line of an order with these seats, which need not be the site's
+pub record BringsSeats (reader : LineReader) (seats : List Seat) (piece : List ℕ) (used : ℕ) : Type 0 where
+  pub fresh : reader.text.items ≡ []
+  pub text : (site : Site) → HasInFront (line_text site (Order seats)) piece used
+  pub due : IsDue reader.so_far (Order seats)

@@ -135,7 +135,8 @@ fn find_item(site: &Site, kind: Kind, name: &[u8]) -> Option<Item>
     }
 }
 
-fn find_point(site: &Site, name: &[u8]) -> Option<u16>
+/// The point with a name.
+pub(crate) fn find_point(site: &Site, name: &[u8]) -> Option<u16>
     requires { IsValid site.now }
     ensures { result ≡ point_of site.now name.now }
 {

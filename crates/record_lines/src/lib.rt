@@ -36,6 +36,7 @@ mod reader;
 mod refusal;
 mod step;
 mod ticks_so_far;
+mod usual_lines;
 mod why;
 mod words;
 

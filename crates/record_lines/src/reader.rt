@@ -1,15 +1,21 @@
 //! Reading a record that comes in pieces.
 
-ghost use Rattle.std.specs.Prelude.{◌≡◌, ◌≤◌, [], ℕ, List, None, Some, true, false, length, slice_get, take};
+ghost use Rattle.std.specs.Prelude.{◌≡◌, ◌≤◌, ◌<◌, ◌+◌, [], ℕ, List, None, Some, IfSome, true, false, length};
+ghost use Rattle.std.specs.Prelude.{slice_get, take};
 ghost use Rattle.std.specs.List.{list_all};
 ghost use Rattle.record_lines.specs.Belongs.{StepBelongs};
-ghost use Rattle.record_lines.specs.Lines.{is_printable as is_printable_byte, reading_of};
-ghost use Rattle.record_lines.specs.ReadBack.{StepMayCome};
+ghost use Rattle.record_lines.specs.Lines.{is_printable as is_printable_byte, next_number, reading_of};
+ghost use Rattle.record_lines.specs.ReadBack.{Brings, BringsSeats, StepMayCome};
+ghost use Rattle.record_lines.specs.declared.line.Line.TheVariants.{Event as EventLine, Order as OrderLine};
+ghost use Rattle.record_lines.specs.declared.line.Line.TheVariants.{Tick as TickLine};
 ghost use Rattle.record_lines.specs.declared.ticks_so_far.TicksSoFar.{TicksSoFar as TicksSoFarOf};
 ghost use Rattle.record_lines.specs.Stands.{Accepts, EndsLine, Feeds, IsOpen, Keeps, Refuses, StandsFor, Stops};
 ghost use Rattle.record_lines.specs.Stands.{TakesByte, TakesLine, over_step};
 ghost use Rattle.site_types.specs.Valid.{IsValid};
+ghost use Rattle.site_types.specs.declared.event.Event.TheVariants.{Point as PointEvent};
 ghost use Rattle.site_types.specs.declared.site.Site.{Site as SiteOf};
+ghost use Rattle.tick_units.specs.Ticks.{last_tick};
+ghost use Rattle.tick_units.specs.declared.seat.Seat.{Seat as SeatOf};
 
 use crate::fed::Fed;
 use crate::judge::judge;
@@ -18,9 +24,11 @@ use crate::over::Over;
 use crate::refusal::Refusal;
 use crate::step::Step;
 use crate::ticks_so_far::TicksSoFar;
+use crate::usual_lines::{order_in_front, report_in_front, tick_in_front};
 use crate::why::Why;
 use arrayvec::ArrayVec;
-use site_types::Site;
+use site_types::{Event, PointState, Site};
+use tick_units::{LAST_TICK, Order, Seat, Tick};
 
 /// Reads the lines of a record, however its bytes are cut into pieces.
 #[derive(Drop)]
@@ -68,6 +76,90 @@ impl LineReader {
                 step: again(over),
             };
         }
+        if let Some(used) = self.next_tick(piece) {
+            let tick = Tick(self.so_far.ticks + 1);
+            self.accept_tick(tick);
+            return Fed {
+                used,
+                step: Step::Line(Line::Tick(tick)),
+            };
+        }
+        self.feed_in_tick(site, piece)
+    }
+
+    // Takes a piece that doesn't begin with the next tick, where the reader isn't over.
+    fn feed_in_tick(&mut self, site: &Site, piece: &[u8]) -> Fed
+        requires valid { IsValid site.now }
+        requires open { self.old.over ≡ None }
+        ensures feeds { (before : List ℕ) → StandsFor site.now before self.old
+            → Feeds site.now before piece.now result self.new }
+        ensures belongs { StepBelongs site.now result.step }
+        ensures may_come { StepMayCome site.now self.old.so_far result.step }
+    {
+        let mut seats = ArrayVec::new();
+        if let Some(used) = self.next_seats(piece, &mut seats) {
+            if let Ok(order) = Order::new(&seats, site.panels) {
+                self.accept_order();
+                return Fed {
+                    used,
+                    step: Step::Line(Line::Order(order)),
+                };
+            }
+        }
+        if let Some((used, point, state)) = self.next_report(site, piece) {
+            self.begin_line();
+            return Fed {
+                used,
+                step: Step::Line(Line::Event(Event::Point { point, state })),
+            };
+        }
+        self.feed_any(site, piece)
+    }
+
+    // How many bytes of a piece the line of the next tick takes, if the piece begins with it.
+    fn next_tick(&self, piece: &[u8]) -> Option<usize>
+        ensures brings { (site : SiteOf) → IfSome result (λ used. Brings site self.now
+            (TickLine (record { 0 = self.now.so_far.ticks + 1 })) piece.now used) }
+        ensures goes_on { IfSome result (λ _. self.now.so_far.ticks < last_tick) }
+    {
+        if !self.text.is_empty() || self.so_far.ticks >= LAST_TICK {
+            return None;
+        }
+        tick_in_front(piece, Tick(self.so_far.ticks + 1))
+    }
+
+    // How many bytes of a piece the line of the tick's order takes, if the piece begins with it, and its seats.
+    fn next_seats(&self, piece: &[u8], seats: &mut ArrayVec<Seat, 65>) -> Option<usize>
+        requires { seats.old.items ≡ [] }
+        ensures { IfSome result (λ used. BringsSeats self.now seats.new.items piece.now used) }
+    {
+        if !self.text.is_empty() || self.so_far.ticks == 0 || self.so_far.has_order {
+            return None;
+        }
+        order_in_front(piece, seats)
+    }
+
+    // How many bytes of a piece the line of a point takes, if the piece begins with it, the point and what it is at.
+    fn next_report(&self, site: &Site, piece: &[u8]) -> Option<(usize, u16, PointState)>
+        requires { IsValid site.now }
+        ensures { IfSome result (λ found.
+            Brings site.now self.now (EventLine (PointEvent found.1 found.2)) piece.now found.0) }
+    {
+        if !self.text.is_empty() || self.so_far.ticks == 0 {
+            return None;
+        }
+        report_in_front(site, piece)
+    }
+
+    // Takes a piece of which nothing is known, where the reader isn't over.
+    fn feed_any(&mut self, site: &Site, piece: &[u8]) -> Fed
+        requires valid { IsValid site.now }
+        requires open { self.old.over ≡ None }
+        ensures feeds { (before : List ℕ) → StandsFor site.now before self.old
+            → Feeds site.now before piece.now result self.new }
+        ensures belongs { StepBelongs site.now result.step }
+        ensures may_come { StepMayCome site.now self.old.so_far result.step }
+    {
         let kept = self.keep(piece);
         match piece.get(kept) {
             None => Fed {
@@ -147,19 +239,43 @@ impl LineReader {
     fn accept(&mut self, line: &Line)
         ensures { Accepts self.old line.now self.new }
     {
+        match line {
+            Line::Tick(tick) => self.accept_tick(*tick),
+            Line::Event(_) => self.begin_line(),
+            Line::Order(_) => self.accept_order(),
+            Line::End => {
+                self.begin_line();
+                self.over = Some(Over::Ended);
+            }
+        }
+    }
+
+    fn accept_tick(&mut self, tick: Tick)
+        ensures { Accepts self.old (TickLine tick) self.new }
+    {
+        self.begin_line();
+        self.so_far = TicksSoFar {
+            ticks: tick.0,
+            has_order: false,
+        };
+    }
+
+    fn accept_order(&mut self)
+        ensures { (order : List SeatOf) → Accepts self.old (OrderLine order) self.new }
+    {
+        self.begin_line();
+        self.so_far.has_order = true;
+    }
+
+    // Makes room for the next line.
+    fn begin_line(&mut self)
+        ensures counts { self.new.number ≡ next_number self.old.number }
+        ensures keeps { self.new.text.items ≡ [] }
+        ensures stands { self.new.so_far ≡ self.old.so_far }
+        ensures ends { self.new.over ≡ self.old.over }
+    {
         self.number = self.number.saturating_add(1);
         self.text.clear();
-        match line {
-            Line::Tick(tick) => {
-                self.so_far = TicksSoFar {
-                    ticks: tick.0,
-                    has_order: false,
-                };
-            }
-            Line::Event(_) => {}
-            Line::Order(_) => self.so_far.has_order = true,
-            Line::End => self.over = Some(Over::Ended),
-        }
     }
 
     fn refuse(&mut self, why: Why) -> Step

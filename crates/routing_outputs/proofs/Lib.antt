@@ -1,3 +1,4 @@
 pub mod Bits
 pub mod Confirming
 pub mod Runs
+pub mod NoneWatched

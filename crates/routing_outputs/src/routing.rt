@@ -67,6 +67,9 @@ impl Routing {
             → StandsFor site panel limit calls self.old
             → StandsFor site panel limit (Turned now.0 on ∷ calls) self.new }
     {
+        if self.outputs.is_empty() {
+            return;
+        }
         self.late = turn_outputs(self.outputs.as_mut_slice(), now, on, self.limit);
         self.on = common_32(self.watched, on);
         self.confirmed = common_32(self.confirmed, on);

@@ -18,7 +18,6 @@
 //! each visit again for each test of the point whose last day is asked for.
 #![tactic(auto)]
 
-mod call_counts;
 mod keep_fault;
 mod keepers;
 mod memory_keeper;

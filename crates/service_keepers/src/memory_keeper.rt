@@ -1,9 +1,8 @@
-use crate::call_counts::count_call;
 use crate::keep_fault::KeepFault;
 use crate::keepers::Keeper;
 use crate::memory_tables::MemoryTables;
 use crate::visit::Visit;
-use panel_edges::{Label, NoMemory};
+use panel_edges::{Label, NoMemory, count_call};
 use std::alloc::Global;
 
 /// A keeper in memory. The calls whose numbers, from 1, are listed fail, and no other.

@@ -13,3 +13,4 @@ pub mod Written
 pub mod PowerCuts
 pub mod Faces
 pub mod SameFaces
+mod GivenOrders

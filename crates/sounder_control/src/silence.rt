@@ -51,6 +51,9 @@ impl Silence {
             → result ≡ is_quiet (Drove zones.now ∷ calls) }
     {
         self.latest = *zones;
+        if self.taken.is_none() {
+            return false;
+        }
         self.taken = self.taken.filter(|taken| keeps_quiet(taken, zones));
         self.taken.is_some()
     }

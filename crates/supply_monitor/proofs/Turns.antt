@@ -1,13 +1,14 @@
 -- What a turn does to what is kept of a supply.
-use Rattle.std.proofs.Common.{◌≡◌, ℕ, ◌-◌, ◌≤◌, List, [], ◌∷◌, true, false, nat_le, Some, None, unwrap_or, if◌then◌else◌, refl, sym, ◌∙◌, ap, arith}
+use Rattle.std.proofs.Common.{◌≡◌, ℕ, ◌-◌, ◌≤◌, List, [], ◌∷◌, true, false, nat_le, Some, None, unwrap_or, if◌then◌else◌, refl, sym, ◌∙◌, ap, subst, arith}
 use Rattle.std.specs.List.{list_any, AllByRecursion}
 use Rattle.std.proofs.lemmas.Bool.Decides.{nat_tests}
 use Rattle.tick_units.specs.declared.tick.Tick.{Tick}
 use Rattle.site_types.specs.declared.supply_kind.SupplyKind.{SupplyKind}
 use Rattle.tick_units.proofs.Earliest.{earliest_more}
 use Rattle.supply_monitor.specs.declared.watch.Watch.{Watch}
-use Rattle.supply_monitor.specs.Supply.{Call, Reported, Turned, is_bad, bad_turns, AllBefore}
+use Rattle.supply_monitor.specs.Supply.{Call, Reported, Turned, is_bad, bad_turns, lasts, AllBefore}
 use Rattle.supply_monitor.specs.Stands.{Keeps}
+use Rattle.supply_monitor.specs.Watches.{IsSound}
 use Rattle.tick_units.specs.Earliest.{IsFalling, earliest_of}
 
 -- where turns fall, the earliest lies farthest back
@@ -50,3 +51,13 @@ pub turned_sound : (wait now : ℕ) (kind : SupplyKind) (calls : List Call) (wat
 turned_sound wait now kind calls watch k sound =
     let still : is_bad kind calls ≡ false = sym k.bad ∙ sound in
     record { bad = sym still; since = rw still refl; shown = rw still refl; falling = rw still tt }
+
+-- a turn leaves a sound supply as it is, and shows no fault
+pub sound_stays : (wait now : ℕ) (kind : SupplyKind) (calls : List Call) (watch : Watch) → IsSound watch → Keeps wait kind calls watch
+    → Keeps wait kind (Turned now ∷ calls) watch
+sound_stays wait now kind calls watch sound k =
+    subst (Keeps wait kind (Turned now ∷ calls)) (sym sound) (turned_sound wait now kind calls watch k (ap (λ (w : Watch). w.bad) sound))
+
+pub sound_hidden : (wait : ℕ) (kind : SupplyKind) (calls : List Call) (watch : Watch) → IsSound watch → Keeps wait kind calls watch
+    → false ≡ lasts wait (bad_turns kind calls)
+sound_hidden wait kind calls watch sound k = sym (ap (λ (w : Watch). w.shown) sound) ∙ k.shown

@@ -1,3 +1,6 @@
+ghost use Rattle.std.specs.Prelude.{◌≡◌, true};
+ghost use Rattle.supply_monitor.specs.Watches.{IsSound};
+
 use crate::watch::Watch;
 use site_types::{SupplyKind, Waits, mask_from_8};
 use tick_units::Tick;
@@ -10,10 +13,16 @@ pub struct Supply {
     standby: Watch,
     voltage: Watch,
     charger: Watch,
+    /// No supply was found bad by the latest turn, and none was reported since.
+    at_rest: bool,
+    ghost sound_mains: { at_rest ≡ true → IsSound mains },
+    ghost sound_standby: { at_rest ≡ true → IsSound standby },
+    ghost sound_voltage: { at_rest ≡ true → IsSound voltage },
+    ghost sound_charger: { at_rest ≡ true → IsSound charger },
 }
 
 impl Supply {
-    ghost use Rattle.std.specs.Prelude.{◌≡◌, [], ◌∷◌, List};
+    ghost use Rattle.std.specs.Prelude.{[], ◌∷◌, List};
     ghost use Rattle.site_types.specs.declared.waits.Waits.{Waits as WaitsOf};
     ghost use Rattle.supply_monitor.specs.Supply.{AllBefore, Call, Reported, Turned, shown_mask};
     ghost use Rattle.supply_monitor.specs.Stands.{StandsFor};
@@ -28,6 +37,7 @@ impl Supply {
             standby: Watch::SOUND,
             voltage: Watch::SOUND,
             charger: Watch::SOUND,
+            at_rest: true,
         }
     }
 
@@ -36,6 +46,7 @@ impl Supply {
         ensures { (waits : WaitsOf) (calls : List Call) → StandsFor waits calls self.old
             → StandsFor waits (Reported kind bad ∷ calls) self.new }
     {
+        self.at_rest = false;
         match kind {
             SupplyKind::Mains => self.mains.bad = bad,
             SupplyKind::Standby => self.standby.bad = bad,
@@ -49,10 +60,15 @@ impl Supply {
         ensures { (waits : WaitsOf) (calls : List Call) → StandsFor waits calls self.old
             → AllBefore now.0 calls → StandsFor waits (Turned now.0 ∷ calls) self.new }
     {
+        if self.at_rest {
+            return;
+        }
         self.mains = self.mains.turn(now, self.waits.mains);
         self.standby = self.standby.turn(now, self.waits.standby);
         self.voltage = self.voltage.turn(now, self.waits.voltage);
         self.charger = self.charger.turn(now, self.waits.charger);
+        let any_bad = self.mains.bad || self.standby.bad || self.voltage.bad || self.charger.bad;
+        self.at_rest = !any_bad;
     }
 
     /// The faults that the latest turn showed, a bit for each supply in the order of [`SupplyKind`].
@@ -60,6 +76,9 @@ impl Supply {
         ensures { (waits : WaitsOf) (calls : List Call) → StandsFor waits calls self.now
             → result ≡ shown_mask waits calls }
     {
+        if self.at_rest {
+            return 0;
+        }
         mask_from_8(&[
             self.mains.shown,
             self.standby.shown,

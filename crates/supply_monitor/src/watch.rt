@@ -1,7 +1,8 @@
-ghost use Rattle.std.specs.Prelude.{◌∷◌, List};
+ghost use Rattle.std.specs.Prelude.{◌≡◌, ◌∷◌, List, false};
 ghost use Rattle.site_types.specs.declared.supply_kind.SupplyKind.{SupplyKind as Kind};
 ghost use Rattle.supply_monitor.specs.Supply.{AllBefore, Call, Reported, Turned};
 ghost use Rattle.supply_monitor.specs.Stands.{Keeps};
+ghost use Rattle.supply_monitor.specs.Watches.{IsSound};
 
 use tick_units::Tick;
 
@@ -26,8 +27,9 @@ impl Watch {
 
     /// Looks at the supply in a tick.
     pub fn turn(self, tick: Tick, wait: u16) -> Watch
-        ensures { (kind : Kind) (calls : List Call) → Keeps wait kind calls self
+        ensures keeps { (kind : Kind) (calls : List Call) → Keeps wait kind calls self
             → AllBefore tick.0 calls → Keeps wait kind (Turned tick.0 ∷ calls) result }
+        ensures sound { result.bad ≡ false → IsSound result }
     {
         if !self.bad {
             return Watch::SOUND;

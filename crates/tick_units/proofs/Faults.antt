@@ -1,10 +1,10 @@
 -- What is wrong with a list of seats, read from its first seat on, against the seats that it has.
-use Rattle.std.proofs.Common.{◌≡◌, ◌+◌, ◌<◌, ◌≤◌, ℕ, suc, take, drop, get_or, drop-cons, take-append-drop}
-use Rattle.std.proofs.Common.{length-append, ◌++◌, Bool, true, false, not, List, [], ◌∷◌, length, Option, Some, None}
+use Rattle.std.proofs.Common.{◌≡◌, ◌+◌, ◌<◌, ℕ, suc, take, drop, get_or, drop-cons, take-append-drop}
+use Rattle.std.proofs.Common.{◌++◌, Bool, true, false, not, List, [], ◌∷◌, length, Option, Some, None}
 use Rattle.std.proofs.Common.{option_map, refl, ap, sym, ◌∙◌, arith, subst, append-nil, append_assoc, if◌then◌else◌}
 use Rattle.std.specs.Prelude.{◌↔◌, Result, Ok, Err, MatchResult, IsOk, IfOk}
 use Rattle.std.specs.List.{Contains}
-use Rattle.std.proofs.lemmas.List.{take_more}
+use Rattle.std.proofs.lemmas.List.{length-take-le}
 use Rattle.std.proofs.lemmas.Bool.Decides.{not_from_Decides}
 use Rattle.std.proofs.lemmas.List.Elements.{All-contains}
 use Rattle.tick_units.specs.declared.seat.Seat.{Seat}
@@ -13,7 +13,7 @@ use Rattle.tick_units.specs.declared.order_fault.BadOrder.TheVariants.{Repeated,
 use Rattle.tick_units.specs.Orders.{IsSound, IsOrder, IsBadAt, IsStrangeAt, IsRepeatedAt, IsFirstMissing, canonical_seats, is_among, first_missing, fault_behind, order_fault}
 use Rattle.tick_units.proofs.Seats.{is_among-Decides}
 use Rattle.tick_units.proofs.Missing.{missing_at, first_missing-at, all_there, first_missing-all_there}
-use Rattle.tick_units.proofs.Sound.{sound_none, sound_push, length_sound, known_behind, absent_before, order_from_sound, sound_from_order, whole_from_order}
+use Rattle.tick_units.proofs.Sound.{sound_none, sound_push, known_behind, absent_before, order_from_sound, sound_from_order, whole_from_order}
 
 -- what the next seat decides
 pub strange_here : (panels : ℕ) (earlier : List Seat) (seat : Seat) (later : List Seat) → is_among seat (canonical_seats panels) ≡ false
@@ -255,12 +255,12 @@ at_place panels seats earlier i d is within sound =
     ∙ sound_passed panels [] earlier (drop i seats) sound
     ∙ ap (fault_behind panels earlier) (drop-cons seats i d within)
 
-pub strange_at : (panels : ℕ) (seats earlier : List Seat) (i : ℕ) (d : Seat) → earlier ≡ take i seats → i < length seats → IsSound panels earlier
+strange_at : (panels : ℕ) (seats earlier : List Seat) (i : ℕ) (d : Seat) → earlier ≡ take i seats → i < length seats → IsSound panels earlier
     → is_among (get_or seats i d) (canonical_seats panels) ≡ false → order_fault panels seats ≡ Some (Strange (length earlier + 1))
 strange_at panels seats earlier i d is within sound strange =
     at_place panels seats earlier i d is within sound ∙ strange_here panels earlier (get_or seats i d) (drop (suc i) seats) strange
 
-pub repeated_at : (panels : ℕ) (seats earlier : List Seat) (i : ℕ) (d : Seat) → earlier ≡ take i seats → i < length seats → IsSound panels earlier
+repeated_at : (panels : ℕ) (seats earlier : List Seat) (i : ℕ) (d : Seat) → earlier ≡ take i seats → i < length seats → IsSound panels earlier
     → is_among (get_or seats i d) (canonical_seats panels) ≡ true → is_among (get_or seats i d) earlier ≡ true
     → order_fault panels seats ≡ Some (Repeated (length earlier + 1))
 repeated_at panels seats earlier i d is within sound known there =
@@ -273,18 +273,17 @@ sound_more panels earlier seat sound known absent =
     sound_push panels earlier seat sound ((is_among-Decides seat (canonical_seats panels)).0 known)
     (not_from_Decides (is_among seat earlier) (is_among-Decides seat earlier) absent)
 
-pub room_for_more : (panels : ℕ) (earlier : List Seat) (seat : Seat) → panels ≤ 8 → IsSound panels earlier
-    → is_among seat (canonical_seats panels) ≡ true → is_among seat earlier ≡ false → length earlier < 65
-room_for_more panels earlier seat few sound known absent =
-    omega (arith, length_sound panels (earlier ++ seat ∷ []) (sound_more panels earlier seat sound known absent), length-append earlier (seat ∷ []))
-
-pub taken_more : (seats earlier : List Seat) (i : ℕ) (d : Seat) → i < length seats → earlier ≡ take i seats
-    → earlier ++ get_or seats i d ∷ [] ≡ take (i + 1) seats
-taken_more seats earlier i d within is = ap (λ xs. xs ++ get_or seats i d ∷ []) is ∙ sym (take_more seats i d within)
+-- the first bad seat of a list decides what is wrong with it
+pub fault_at : (panels : ℕ) (seats : List Seat) (i : ℕ) (d : Seat) (known : Bool) → is_among (get_or seats i d) (canonical_seats panels) ≡ known
+    → i < length seats → IsSound panels (take i seats) → (known ≡ true → is_among (get_or seats i d) (take i seats) ≡ true)
+    → order_fault panels seats ≡ Some (if known then Repeated (i + 1) else Strange (i + 1))
+fault_at panels seats i d true is within sound there =
+    repeated_at panels seats (take i seats) i d refl within sound is (there refl)
+    ∙ ap (λ n. Some (Repeated (n + 1))) (length-take-le i seats (omega arith))
+fault_at panels seats i d false is within sound there =
+    strange_at panels seats (take i seats) i d refl within sound is ∙ ap (λ n. Some (Strange (n + 1))) (length-take-le i seats (omega arith))
 
 -- what the search for a missing seat finds at the end
-pub told_at_end : (panels : ℕ) (seats others canonical : List Seat) (found : Option Seat) → canonical ≡ canonical_seats panels → others ≡ seats
-    → IsSound panels seats → found ≡ first_missing canonical others → order_fault panels seats ≡ option_map Missing found
-told_at_end panels seats others canonical found whole same sound is =
-    order_fault-sound panels seats sound ∙ ap (option_map Missing)
-    (ap (first_missing (canonical_seats panels)) (sym same) ∙ ap (λ xs. first_missing xs others) (sym whole) ∙ sym is)
+pub told_at_end : (panels : ℕ) (seats : List Seat) (found : Option Seat) → IsSound panels seats
+    → found ≡ first_missing (canonical_seats panels) seats → order_fault panels seats ≡ option_map Missing found
+told_at_end panels seats found sound is = order_fault-sound panels seats sound ∙ ap (option_map Missing) (sym is)

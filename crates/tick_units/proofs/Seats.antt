@@ -16,7 +16,7 @@ use Rattle.tick_units.specs.declared.task.Task.TheVariants.{Poll, Decide, Supply
 use Rattle.tick_units.specs.declared.seat.Seat.{Seat}
 use Rattle.tick_units.specs.Orders.{seat_of, task_number, is_same_seat, is_among}
 
-tag_of-task : (a : Task) → tag_of the_type a ≡ task_number a
+pub tag_of-task : (a : Task) → tag_of the_type a ≡ task_number a
 tag_of-task Poll = refl
 tag_of-task Decide = refl
 tag_of-task Supply = refl

@@ -1,8 +1,9 @@
-ghost use Rattle.std.specs.Prelude.{◌≡◌, ◌+◌, ◌*◌, ◌<◌, ◌≤◌, ◌↔◌, [], ◌∷◌, ◌++◌, ℕ, length, IfOk, IfErr, IsOk};
-ghost use Rattle.std.specs.Prelude.{MatchResult, Some, None, slice_get};
+ghost use Rattle.std.specs.Prelude.{◌≡◌, ◌+◌, ◌*◌, ◌<◌, ◌≤◌, ◌↔◌, [], ◌∷◌, ◌++◌, ℕ, length, IfOk, IfErr, IsOk, OnOk};
+ghost use Rattle.std.specs.Prelude.{MatchResult, Some, None, slice_get, if◌then◌else◌};
 ghost use Rattle.tick_units.specs.Orders.{IsPanelCount, IsOrder, IsSound, IsStrangeAt, IsRepeatedAt, IsFirstMissing};
 ghost use Rattle.tick_units.specs.Orders.{canonical_seats, panel_seats, order_fault, first_missing};
 ghost use Rattle.tick_units.specs.Orders.{is_among as among};
+ghost use Rattle.tick_units.specs.declared.order_fault.BadOrder.TheVariants.{Repeated, Strange};
 ghost use Rattle.tick_units.specs.declared.seat.Seat.{Seat as SeatOf};
 
 use crate::order_fault::BadOrder;
@@ -47,14 +48,10 @@ impl Order {
         ensures answer { MatchResult result (λ _. order_fault panels seats.now ≡ None)
             (λ fault. order_fault panels seats.now ≡ Some fault) }
     {
-        let order = sound_seats(seats, panels)?;
-        // As many sound seats as the site has are all of them.
-        if order.len() == 8 * panels as usize + 1 {
-            return Ok(Order { seats: order });
-        }
-        match Order::canonical(panels).first_missing(&order) {
+        check_seats(seats, panels)?;
+        match missing_seat(seats, panels) {
             Some(seat) => Err(BadOrder::Missing { seat }),
-            None => Ok(Order { seats: order }),
+            None => Ok(Order::of_seats(seats)),
         }
     }
 
@@ -92,6 +89,18 @@ impl Order {
         self.seats.len()
     }
 
+    // The order of these seats.
+    fn of_seats(seats: &[Seat]) -> Order
+        requires { length seats.now ≤ 65 }
+        ensures { result ≡ seats.now }
+    {
+        let mut order = Order {
+            seats: ArrayVec::new(),
+        };
+        let _room = order.seats.try_extend_from_slice(seats);
+        order
+    }
+
     // The first of these seats that isn't among the others.
     fn first_missing(&self, others: &[Seat]) -> Option<Seat>
         ensures { result ≡ first_missing self.now others.now }
@@ -105,25 +114,55 @@ impl Order {
     }
 }
 
-// These seats, if each is one of the site and none stands twice.
-fn sound_seats(seats: &[Seat], panels: u8) -> Result<ArrayVec<Seat, 65>, BadOrder>
+// Refuses seats of which one isn't of the site, or stands twice.
+fn check_seats(seats: &[Seat], panels: u8) -> Result<(), BadOrder>
     requires { IsPanelCount panels }
-    ensures ok { IfOk result (λ order. (order.items ≡ seats.now) × IsSound panels seats.now) }
+    ensures ok { OnOk result (IsSound panels seats.now) }
     ensures bad { IfErr result (λ fault. order_fault panels seats.now ≡ Some fault) }
 {
-    let mut seen = SeatSet::new();
-    let mut order = ArrayVec::new();
-    for seat in seats {
-        let place = order.len() + 1;
-        if !is_of_site(seat, panels) {
-            return Err(BadOrder::Strange { place });
+    let mut left = SeatSet::of_site();
+    for (before, seat) in seats.iter().enumerate() {
+        if seat.panel > panels || !left.remove(seat) {
+            return Err(bad_seat(seat, panels, before + 1));
         }
-        if !seen.insert(seat) {
-            return Err(BadOrder::Repeated { place });
-        }
-        order.push(*seat);
     }
-    Ok(order)
+    Ok(())
+}
+
+// What is wrong with a seat that isn't of the site, or that stands at an earlier place.
+#[cold]
+fn bad_seat(seat: &Seat, panels: u8, place: usize) -> BadOrder
+    requires { IsPanelCount panels }
+    ensures { result
+        ≡ if among seat.now (canonical_seats panels) then Repeated place else Strange place }
+{
+    if is_of_site(seat, panels) {
+        BadOrder::Repeated { place }
+    } else {
+        BadOrder::Strange { place }
+    }
+}
+
+// The first seat of the site that isn't among these, of which each is one of the site and none stands twice.
+fn missing_seat(seats: &[Seat], panels: u8) -> Option<Seat>
+    requires panels { IsPanelCount panels }
+    requires sound { IsSound panels seats.now }
+    ensures { result ≡ first_missing (canonical_seats panels) seats.now }
+{
+    // As many sound seats as the site has are all of them.
+    if seats.len() == 8 * panels as usize + 1 {
+        return None;
+    }
+    sought_seat(seats, panels)
+}
+
+// The same, sought for: here alone room is made for the canonical order.
+#[cold]
+fn sought_seat(seats: &[Seat], panels: u8) -> Option<Seat>
+    requires { IsPanelCount panels }
+    ensures { result ≡ first_missing (canonical_seats panels) seats.now }
+{
+    Order::canonical(panels).first_missing(seats)
 }
 
 // Whether a seat is one of a site of so many panels.

@@ -1,43 +1,44 @@
-ghost use Rattle.std.specs.Prelude.{◌≡◌, ◌+◌, ◌*◌, ◌≤◌, List, [], ◌∷◌, ◌++◌, not};
-ghost use Rattle.tick_units.specs.Orders.{is_among, task_number};
-ghost use Rattle.tick_units.specs.SeatSets.{HasThose};
+ghost use Rattle.std.specs.Prelude.{◌≡◌, ◌≤◌, ℕ, List, [], ◌∷◌, ◌++◌};
+ghost use Rattle.tick_units.specs.SeatSets.{HasAllBut, is_left_over};
 ghost use Rattle.tick_units.specs.declared.seat.Seat.{Seat as SeatOf};
 
 use crate::seat::Seat;
 
-/// A set of seats of at most 8 panels: a flag for each panel and task, where the panel of Keep is 0.
+// The tasks of a panel.
+const OF_PANEL: u16 = 0xff;
+
+// The task of panel 0, which is Keep.
+const OF_KEEP: u16 = 0x100;
+
+/// A set of seats of at most 8 panels: for each panel, a bit for each task.
 #[derive(Drop)]
 pub struct SeatSet {
-    flags: [bool; 81],
+    tasks: [u16; 9],
 }
 
 impl SeatSet {
-    /// The set that has no seat.
-    pub fn new() -> SeatSet
-        ensures { HasThose result [] }
+    /// All seats of a site, however many panels it has.
+    pub fn of_site() -> SeatSet
+        ensures { (panels : ℕ) → panels ≤ 8 → HasAllBut panels [] result }
     {
-        SeatSet { flags: [false; 81] }
+        let mut tasks = [OF_PANEL; 9];
+        tasks[0] = OF_KEEP;
+        SeatSet { tasks }
     }
 
-    /// Puts a seat into the set, and answers whether it wasn't there.
-    pub fn insert(&mut self, seat: &Seat) -> bool
+    /// Takes a seat out of the set, and answers whether it was there.
+    pub fn remove(&mut self, seat: &Seat) -> bool
         requires { seat.now.panel ≤ 8 }
-        ensures added { (seats : List SeatOf) → HasThose self.old seats
-            → HasThose self.new (seats ++ seat.now ∷ []) }
-        ensures was_absent { (seats : List SeatOf) → HasThose self.old seats
-            → result ≡ not (is_among seat.now seats) }
+        ensures removed { (panels : ℕ) (seats : List SeatOf) → HasAllBut panels seats self.old
+            → HasAllBut panels (seats ++ seat.now ∷ []) self.new }
+        ensures was_there { (panels : ℕ) (seats : List SeatOf) → HasAllBut panels seats self.old
+            → seat.now.panel ≤ panels
+            → result ≡ is_left_over panels seats seat.now }
     {
-        let place = flag_place(seat);
-        let is_new = !self.flags[place];
-        self.flags[place] = true;
-        is_new
+        let panel = seat.panel as usize;
+        let task = seat.task as u32;
+        let tasks = self.tasks[panel];
+        self.tasks[panel] = tasks & !(1 << task);
+        tasks >> task & 1 == 1
     }
-}
-
-// Where the flag of a seat stands.
-fn flag_place(seat: &Seat) -> usize
-    requires { seat.now.panel ≤ 8 }
-    ensures { result ≡ 9 * seat.now.panel + task_number seat.now.task }
-{
-    9 * seat.panel as usize + seat.task as usize
 }

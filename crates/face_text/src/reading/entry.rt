@@ -3,7 +3,7 @@ use crate::reading::change::Change;
 use tick_units::Tick;
 
 /// What a line of a text tells, but for the first line.
-#[derive(Clone, Copy, Debug, PartialEq, Eq)]
+#[derive(Clone, Copy)]
 pub enum Entry {
     /// A face of a panel shows something otherwise than before.
     Change { panel: u8, change: Change },

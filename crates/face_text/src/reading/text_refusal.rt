@@ -5,7 +5,7 @@ use thiserror::Error;
 use tick_units::NoMemory;
 
 /// Why a text isn't read.
-#[derive(Clone, Copy, Debug, PartialEq, Eq, Error)]
+#[derive(Clone, Copy, Debug, Error)]
 pub enum TextRefusal {
     /// It is the text of no run. The line with this number, counted from 1, is the first that no such text
     /// has behind the lines before it.

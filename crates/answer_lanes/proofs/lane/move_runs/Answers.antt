@@ -78,3 +78,13 @@ loop-left-preserved g c =
 pub returns-clause-moves : goal.returns-clause-moves
 returns-clause-moves g c = ends g.S.Several.item_at c.args.count c.args.runs.now.items c.loop-left.left c.loop-left.into.items c.loop-left.runs.items
     c.loop-left.runs.capacity c.loop-left.invariant.moving (let none = c.loop-left-test.false in omega (arith, none))
+
+pub returns-then-still-eq0-clause-moves : goal.returns-then-still-eq0-clause-moves
+returns-then-still-eq0-clause-moves g c =
+    let item_at = g.S.Several.item_at in
+    let runs = c.args.runs.now in
+    let first = c.move_whole-before_the_seam in
+    ends item_at c.args.count runs.items (c.args.count - first.result.items) first.new.into.items first.new.runs.items runs.capacity
+    (up_to_the_seam item_at c.args.count runs.items runs.capacity first.result.runs first.result.items c.args.into.now.items first.new.into.items
+    first.new.runs.items c.requires.may c.requires.few c.requires.empty first.ensures.whole first.ensures.moved first.ensures.rest)
+    c.if-still-eq0.true

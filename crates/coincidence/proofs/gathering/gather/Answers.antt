@@ -1,9 +1,7 @@
-use Rattle.std.proofs.Common.{◌≡◌, ◌++◌, ◌∷◌, [], ap, subst, sym, ◌∙◌}
+use Rattle.std.proofs.Common.{ap, subst, sym, ◌∙◌}
 use Rattle.answer_lanes.specs.Points.{finding_at}
-use Rattle.answer_lanes.specs.Runs.{items_of}
 use Rattle.answer_lanes.proofs.Moving.{length_run}
-use Rattle.tick_units.specs.Lane.{HasRoom, with_put}
-use Rattle.coincidence.proofs.Turned.{put_both}
+use Rattle.tick_units.specs.Lane.{HasRoom}
 use Rattle.coincidence.proofs.gathering.gather.Goals as goal
 
 pub put_run-requires-clause-room : goal.put_run-requires-clause-room

@@ -2,7 +2,7 @@ use Rattle.std.proofs.Common.{◌≡◌, ◌∙◌, ◌==◌, Some, ap, arith, d
 use Rattle.std.specs.Prelude.{option_map}
 use Rattle.std.specs.List.{find}
 use Rattle.site_types.specs.declared.output.Output.{Output}
-use Rattle.face_text.proofs.NextNames.{found_behind, found_first, found_none, has_number}
+use Rattle.face_text.proofs.NextNames.{found_behind, found_beyond, found_first, found_none, has_number}
 use Rattle.face_text.proofs.next_names.next_output.Goals as goal
 
 pub returns-in_default-clause-name : goal.returns-in_default-clause-name
@@ -36,9 +36,10 @@ returns-then-output-number-clause-passed c number low =
     let left : drop c.args.passed.now c.args.site.now.outputs ≡ c.left_of-left.result.now =
     ap (drop c.args.passed.now) (sym c.as_slice.ensures) ∙ sym c.left_of-left.ensures in
     ap (option_map (λ (x : Output). x.name.bytes))
-    (found_behind key number_of c.args.site.now.outputs c.left_of-left.result.now c.args.passed.now c.in-Some.skipped c.args.number number left
-    (sym c.first_output.ensures ∙ c.in-Some.is) low)
-    ∙ c.requires number low
+    (found_beyond key number_of c.args.site.now.outputs c.left_of-left.result.now c.args.passed.now c.in-Some.skipped c.args.number number
+    c.index-left-skipped.result left (sym c.first_output.ensures ∙ c.in-Some.is)
+    (ap number_of (sym c.index-left-skipped.is) ∙ c.if-output-number.true) (omega (arith, low)))
+    ∙ c.requires number (omega (arith, low))
 
 pub returns-clause-passed : goal.returns-clause-passed
 returns-clause-passed c number low =
@@ -48,5 +49,8 @@ returns-clause-passed c number low =
     ap (drop c.args.passed.now) (sym c.as_slice.ensures) ∙ sym c.left_of-left.ensures in
     ap (option_map (λ (x : Output). x.name.bytes))
     (found_behind key number_of c.args.site.now.outputs c.left_of-left.result.now c.args.passed.now c.in-Some.skipped c.args.number number left
-    (sym c.first_output.ensures ∙ c.in-Some.is) low)
-    ∙ c.requires number low
+    (sym c.first_output.ensures ∙ c.in-Some.is) (omega (arith, low)))
+    ∙ c.requires number (omega (arith, low))
+
+pub returns-in_default-clause-passed : goal.returns-in_default-clause-passed
+returns-in_default-clause-passed c number low = c.requires number (omega (arith, low))

@@ -1,4 +1,4 @@
-use Rattle.std.proofs.Common.{◌∙◌, ◌≤◌, ◌<◌, ℕ, ap, arith}
+use Rattle.std.proofs.Common.{◌∙◌, ◌≤◌, ◌<◌, ℕ, ap, arith, rules}
 use Rattle.site_types.specs.declared.word.Word.{Word}
 use Rattle.site_types.specs.Bits.{has_bit}
 use Rattle.site_types.proofs.Masks.{mask_is}
@@ -50,3 +50,16 @@ returns c site kept done before valid stands =
           })
           (λ q iq. ap (λ (w : Word). w.fault) (word q iq) ∙ fault_heard site kept done panel before q);
     }
+
+pub loop-source-preserved : goal.loop-source-preserved
+loop-source-preserved c = record {
+  zones_wide = search rules;
+  manual_wide = search rules;
+  fits = search rules;
+  zones = search rules;
+  manual = search rules;
+  faulty = search rules;
+  no_zones = search rules;
+  no_manual = search rules;
+  no_faulty = search rules;
+}

@@ -5,5 +5,5 @@ use Rattle.cause_effect.proofs.Using.{or_none}
 use Rattle.cause_effect.proofs.users.Users.mark.Goals as goal
 
 pub returns-in_default : goal.returns-in_default
-returns-in_default c m small =
+returns-in_default c m =
     or_none (values_of c.args.marks.now m) (is_user c.args.self.now.sets c.args.place m) (ap (λ set. has_marker set m) (sym c.in_default.ensures))

@@ -9,7 +9,7 @@ use Rattle.cause_effect.proofs.users.Users.mark_word.Given as goal
 abbrev pub invariant-loop-left : goal.invariant-loop-left
 invariant-loop-left l = record {
   fits : l.left < 2 ^ 32;
-  marked : (m : ℕ) → m < 256
+  marked : (m : ℕ)
       → (values_of l.marks m || any_below 32 (left_uses l.self.sets l.first l.left m))
       ≡ (values_of l.initial.marks m || uses_word l.self.sets l.first l.before l.after m);
 }

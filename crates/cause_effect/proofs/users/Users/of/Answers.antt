@@ -1,43 +1,57 @@
-use Rattle.std.proofs.Common.{◌≡◌, ◌≤◌, ◌+◌, ◌==◌, ◌&&◌, ◌||◌, ap, sym, subst, ◌∙◌, Some, length}
-use Rattle.std.specs.Prelude.{slice_get}
-use Rattle.std.specs.List.{list_any}
+use Rattle.std.proofs.Common.{◌≡◌, ◌+◌, ◌-◌, ap, sym, subst, ◌∙◌, arith, get_or, length}
 use Rattle.std.proofs.lemmas.Option.{slice_get-get_or}
-use Rattle.cause_effect.specs.Users.{looks_at, is_user}
-use Rattle.cause_effect.proofs.Using.{AreUsersUpTo, no_user, users_next, users_all, written_back}
+use Rattle.cause_effect.specs.Users.{AreUsersFrom}
+use Rattle.cause_effect.proofs.Below.{none_from, order_fits, users_more}
+use Rattle.cause_effect.proofs.Using.{written_back}
 use Rattle.cause_effect.proofs.users.Users.of.Goals as goal
 
-pub loop-place-init : goal.loop-place-init
-loop-place-init c = record {
+pub overflow_cast-position : goal.overflow_cast-position
+overflow_cast-position c =
+    let few = order_fits c.args.site.now c.args.order.now c.requires.order (λ k. let fit = c.type_inv.order k in omega (arith, fit)) in
+    let within = c.loop-position.invariant.within in
+    let some = c.loop-position-test.true in
+    omega (arith, few, within, some)
+
+pub loop-position-init : goal.loop-position-init
+loop-position-init c = record {
   size = c.in_ok-sets.ensures.size;
-  users = no_user c.args.site.now c.in_ok-sets.sets.items c.in_ok-sets.ensures;
+  within = omega arith;
+  users = none_from c.args.site.now c.args.order.now c.in_ok-sets.sets.items c.in_ok-sets.ensures.none;
 }
 
-pub loop-place-preserved : goal.loop-place-preserved
-loop-place-preserved c =
-    let size = c.add_terms.ensures.size in
-    let len = sym c.deref_mut.ensures.len ∙ (ap length c.deref_mut.ensures.value ∙ c.loop-place.invariant.size) in
-    let whole = written_back c.loop-place.sets.len c.add_terms.new.sets c.loop-place.sets.items (size ∙ sym len) in
-    let k = c.loop-place.place in
+pub loop-position-preserved : goal.loop-position-preserved
+loop-position-preserved c =
     let site = c.args.site.now in
-    let items = c.as_slice-marker-items.result.now in
-    let marker = c.marker-item.result in
-    let at : slice_get site.markers k ≡ Some marker =
-    ap (λ xs. slice_get xs k) (sym c.as_slice-marker-items.ensures) ∙
-    (slice_get-get_or items k marker c.loop-place-test.true ∙ ap Some (sym c.marker-item.is)) in
+    let order = c.args.order.now in
+    let items = c.loop-position.sets.items in
+    let n = c.loop-position.position - 1 in
+    let x = get_or order n 0 in
+    let fit = c.type_inv.order n in
+    let within = c.loop-position.invariant.within in
+    let some = c.loop-position-test.true in
+    let next : c.loop-position.position ≡ n + 1 = omega (arith, some) in
+    let size = c.add_marker.ensures.size in
+    let len = sym c.deref_mut.ensures.len ∙ (ap length c.deref_mut.ensures.value ∙ c.loop-position.invariant.size) in
+    let whole = written_back c.loop-position.sets.len c.add_marker.new.sets items (size ∙ sym len) in
     record {
       size = ap length whole ∙ size;
-      users = subst (AreUsersUpTo site (k + 1)) (sym whole)
-          (users_next site k marker c.loop-place.sets.items c.add_terms.new.sets at c.loop-place.invariant.users
-          (λ place m. c.add_terms.ensures.users place m ∙
-          (ap (λ sets. is_user sets place m || ((m == k) && list_any (looks_at site place) c.as_slice.result.now))
-          c.deref_mut.ensures.value ∙
-          ap (λ terms. is_user c.loop-place.sets.items place m || ((m == k) && list_any (looks_at site place) terms))
-          c.as_slice.ensures)));
+      within = omega (arith, within);
+      users = subst (AreUsersFrom site order n) (sym whole)
+          (users_more site c.requires.valid order c.requires.order n x c.deref_mut.result.now c.add_marker.new.sets (omega (arith, fit))
+          (slice_get-get_or order n 0 (omega (arith, within, some)))
+          (subst (AreUsersFrom site order (n + 1)) (sym c.deref_mut.ensures.value)
+          (subst (λ i. AreUsersFrom site order i items) next c.loop-position.invariant.users))
+          c.add_marker.ensures.users);
     }
 
 pub returns : goal.returns
-returns c place m =
-    let rows = c.as_slice-marker-items.ensures in
-    let done : length c.args.site.now.markers ≤ c.loop-place.place = subst (λ xs. length xs ≤ c.loop-place.place) rows c.loop-place-test.false in
-    ap (λ sets. is_user sets place m) c.from_vec.ensures ∙ users_all c.args.site.now c.loop-place.place c.loop-place.sets.items done
-    c.loop-place.invariant.users place m
+returns c =
+    let site = c.args.site.now in
+    let order = c.args.order.now in
+    let last = c.loop-position-test.false in
+    let done : c.loop-position.position ≡ 0 = omega (arith, last) in
+    record {
+      few = order_fits site order c.requires.order (λ k. let fit = c.type_inv.order k in omega (arith, fit));
+      users = subst (AreUsersFrom site order 0) (sym c.from_vec.ensures)
+          (subst (λ i. AreUsersFrom site order i c.loop-position.sets.items) done c.loop-position.invariant.users);
+    }

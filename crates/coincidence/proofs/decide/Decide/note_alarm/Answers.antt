@@ -1,7 +1,7 @@
 use Rattle.std.proofs.Common.{◌<◌, refl, sym, subst}
 use Rattle.coincidence.proofs.Watched.{point_small, zone_small, fits_next}
 use Rattle.coincidence.proofs.Observations.{floor_judged}
-use Rattle.coincidence.proofs.TakenAnswer.{stands_noted}
+use Rattle.coincidence.proofs.TakenAnswer.{others_noted, stands_noted}
 use Rattle.coincidence.proofs.decide.Decide.note_alarm.Goals as goal
 
 pub at-point-requires : goal.at-point-requires
@@ -29,3 +29,8 @@ returns-clause-taken c site kept panel done taken stands may judges =
     stands_noted stands answer may r c.index_mut-watch.result.now c.at-point.ensures c.index_mut-watch.ensures.value
     judgement.counted judgement.floor c.note.new.self c.note-2.new.self c.may_pair.result (c.note.ensures r c.at-point.ensures) c.may_pair.ensures
     c.note-2.ensures judges.counted (floor_judged stands answer fits r c.at-point.ensures judgement judges)
+
+pub returns-clause-others : goal.returns-clause-others
+returns-clause-others c =
+    others_noted c.args.self.now.points c.args.answer.now.point c.args.answer.now.heard c.args.judgement.now.counted c.args.judgement.now.floor
+    c.args.answer.now.stamp c.at-point.result.now c.at-point.ensures c.note.new.self c.note.ensures

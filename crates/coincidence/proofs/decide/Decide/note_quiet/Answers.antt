@@ -1,6 +1,6 @@
-use Rattle.std.proofs.Common.{refl}
+use Rattle.std.proofs.Common.{false, refl}
 use Rattle.coincidence.proofs.Watched.{point_small, point_read}
-use Rattle.coincidence.proofs.TakenAnswer.{quiet_noted}
+use Rattle.coincidence.proofs.TakenAnswer.{others_noted, quiet_noted}
 use Rattle.coincidence.proofs.decide.Decide.note_quiet.Goals as goal
 
 pub note-requires : goal.note-requires
@@ -13,3 +13,9 @@ returns-clause-taken c quiet site kept panel done taken stands may =
     let answer = c.args.answer.now in
     let read = point_read stands answer.point (may.own 0 answer refl) in
     quiet_noted stands answer may quiet read.0 c.note.new.self read.1 (c.note.ensures read.0 read.1)
+
+pub returns-clause-others : goal.returns-clause-others
+returns-clause-others c =
+    let q = c.requires in
+    let read = point_read q.stands c.args.answer.now.point (q.may.own 0 c.args.answer.now refl) in
+    others_noted c.args.self.now.points c.args.answer.now.point c.args.answer.now.heard false (record { 0 = 0 }) c.args.answer.now.stamp read.0 read.1 c.note.new.self c.note.ensures

@@ -1,5 +1,5 @@
 use Rattle.std.proofs.Common.{◌∙◌, true, false, subst}
-use Rattle.coincidence.specs.Places.{HasFirst}
+use Rattle.answer_lanes.specs.Places.{HasFirst}
 use Rattle.coincidence.proofs.PlaceSets.{begun_those}
 use Rattle.coincidence.proofs.point_watches.PointWatches.new.Goals as goal
 

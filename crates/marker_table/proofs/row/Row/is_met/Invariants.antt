@@ -3,4 +3,4 @@ use Rattle.marker_table.specs.Table.{count_in}
 use Rattle.marker_table.proofs.row.Row.is_met.Given as goal
 
 abbrev pub invariant-loop-mask : goal.invariant-loop-mask
-invariant-loop-mask l = l.left + sum_by (count_in l.facts l.values) (take l.mask-index l.self.masks) ≡ l.self.needed
+invariant-loop-mask l = l.left + sum_by (count_in l.readings) (take l.mask-index l.self.masks) ≡ l.self.needed

@@ -14,7 +14,7 @@ use Rattle.site_types.specs.Limits.{output_bits}
 use Rattle.output_delays.specs.Timers.{is_holding, turned_by}
 use Rattle.output_lists.proofs.Bits.{bit_is}
 use Rattle.tick_units.proofs.Listed.{map_found, passes}
-use Rattle.output_delays.proofs.Requested.{held_timers, through_is, through_off, timer_turned}
+use Rattle.output_delays.proofs.Requested.{all_through, held_timers, none_turned, through_is, through_off, timer_turned}
 use Rattle.output_lists.proofs.Turning.{placed_states, turned_states}
 use Rattle.output_delays.proofs.delays.Delays.turn.Goals as goal
 
@@ -90,3 +90,21 @@ invariant_of-self c =
     let items = c.args.self.now.timers.items in
     let given : c.turn_timers-held.new.timers ≡ map f items = c.turn_timers-held.ensures.timers ∙ ap (map f) c.as_mut_slice.ensures.value in
     record { placed = placed_states f (λ timer. timer.place) (λ timer. refl) items c.turn_timers-held.new.timers c.args.self.now.placed given }
+
+pub returns-then-is_empty-clause-stands : goal.returns-then-is_empty-clause-stands
+returns-then-is_empty-clause-stands c site panel first calls stands =
+    let items = c.args.self.now.timers.items in
+    let few : length items ≡ 0 = grind (arith, c.is_empty.ensures, c.if-is_empty.true) in
+    record {
+      active = stands.active;
+      timers = none_turned site panel calls c.args.now c.args.requests.now items few stands.timers;
+      overrides = stands.overrides;
+    }
+
+pub returns-then-is_empty-clause-value : goal.returns-then-is_empty-clause-value
+returns-then-is_empty-clause-value c site panel first calls stands up =
+    let requests = c.args.requests.now in
+    let items = c.args.self.now.timers.items in
+    let few : length items ≡ 0 = grind (arith, c.is_empty.ensures, c.if-is_empty.true) in
+    mask_from_bits 32 requests.asked (λ k. is_through site panel first calls c.args.now.0 requests (k + 1)) (omega arith)
+    (all_through site panel calls c.args.now requests items few stands.timers first stands.overrides.falling)

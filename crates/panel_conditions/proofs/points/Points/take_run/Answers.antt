@@ -5,9 +5,9 @@ use Rattle.panel_conditions.specs.Stands.{WatchesPoints}
 use Rattle.panel_conditions.proofs.Runs.{item_more, run_again}
 use Rattle.panel_conditions.proofs.points.Points.take_run.Goals as goal
 
-pub returns-then-have_told-clause-watches : goal.returns-then-have_told-clause-watches
-returns-then-have_told-clause-watches c site kept panel done taken h =
-    run_again site kept panel done taken c.args.run.now c.args.self.now (c.have_told.ensures c.if-have_told.true) h
+pub returns-then-has_run-clause-watches : goal.returns-then-has_run-clause-watches
+returns-then-has_run-clause-watches c site kept panel done taken h =
+    run_again site kept panel done taken c.args.run.now c.args.self.now (c.has_run.ensures c.if-has_run.true) h
 
 pub loop-place-preserved : goal.loop-place-preserved
 loop-place-preserved c =

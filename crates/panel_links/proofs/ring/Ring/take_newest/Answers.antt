@@ -1,6 +1,6 @@
-use Rattle.std.proofs.Common.{◌≡◌, ◌∙◌, ◌+◌, ◌*◌, ◌≤◌, ◌==◌, ◌&&◌, ℕ, if◌then◌else◌, ap, subst, arith}
+use Rattle.std.proofs.Common.{◌≡◌, ◌∙◌, ◌+◌, ◌*◌, ◌≤◌, ◌==◌, ◌&&◌, ℕ, if◌then◌else◌, refl, arith}
 use Rattle.std.proofs.lemmas.Bool.{or_parts}
-use Rattle.panel_links.specs.Kept.{HasZonesOf, newest}
+use Rattle.panel_links.specs.Kept.{newest}
 use Rattle.panel_links.specs.Stands.{kept_in}
 use Rattle.panel_links.proofs.Newest.{one_more, same_zones}
 use Rattle.panel_links.proofs.Turns.{InRing}
@@ -18,21 +18,17 @@ loop-of-preserved c =
     let same = was.panels in
     let start = kept_in c.args.self.now in
     let before = kept_in c.loop-of.self in
-    let after = kept_in c.keep.new.self in
-    let word = c.newer-word.result in
+    let after = kept_in c.take_newer-differ.new.self in
+    let word = newest (newest (before at of) (before left of)) (before right of) in
     let begun : first ≤ of = omega arith in
     let put : (a o : ℕ) → InRing panels a → InRing panels o → after a o ≡ (if (a == at) && (o == of) then word else before a o) =
-    λ a o ha ho. c.keep.ensures.words a o (ha.0, omega (arith, ha.1, same)) (ho.0, omega (arith, ho.1, same)) in
-    let is : word ≡ newest (newest (before at of) (before left of)) (before right of) =
-    c.newer-word.ensures ∙ ap (λ k. newest k c.kept-by_right.result) (c.newer.ensures
-    ∙ ap (λ k. newest k c.kept-by_left.result) c.kept-kept.ensures ∙ ap (newest (before at of)) c.kept-by_left.ensures)
-    ∙ ap (newest (newest (before at of) (before left of))) c.kept-by_right.ensures in
+    λ a o ha ho. c.take_newer-differ.ensures.words a o (ha.0, omega (arith, ha.1, same)) (ho.0, omega (arith, ho.1, same)) in
     record {
-      panels = c.keep.ensures.panels ∙ was.panels;
-      links = c.keep.ensures.links ∙ was.links;
-      words = one_more panels at left right first of start before after word begun was.words put c.requires.at c.requires.left c.requires.right is;
+      panels = c.take_newer-differ.ensures.panels ∙ was.panels;
+      links = c.take_newer-differ.ensures.links ∙ was.links;
+      words = one_more panels at left right first of start before after word begun was.words put c.requires.at c.requires.left c.requires.right refl;
       zones = λ none p hp apart. (
-          let parts = or_parts c.loop-of.differ c.has_other_zones-differ.result none in
+          let parts = or_parts c.loop-of.differ c.take_newer-differ.result none in
           same_zones panels at left right first of start before after word begun was.words put p c.requires.at hp
-          (subst (HasZonesOf word) c.kept-kept.ensures (c.has_other_zones-differ.ensures parts.1)) (was.zones parts.0 p hp apart));
+          (c.take_newer-differ.ensures.zones parts.1) (was.zones parts.0 p hp apart));
     }

@@ -8,7 +8,7 @@ use Rattle.panel_links.proofs.ring.Ring.take_newest.Given as goal
 abbrev pub invariant-loop-of : goal.invariant-loop-of
 invariant-loop-of l = record {
   panels : l.self.panels ≡ l.fn.self.panels;
-  links : l.self.up ≡ l.fn.self.up;
+  links : l.self.down ≡ l.fn.self.down;
   words : (a o : ℕ) → HasPanel l.fn.self a → HasPanel l.fn.self o → kept_in l.self a o
       ≡ (if (a == l.at) && (nat_le l.first o && nat_lt o l.of)
       then newest (newest (kept_in l.fn.self a o) (kept_in l.fn.self l.left o)) (kept_in l.fn.self l.right o)

@@ -1,4 +1,6 @@
-use Rattle.std.proofs.Common.{◌≡◌, ◌∙◌, ◌-◌, ◌<◌, ◌≤◌, Bool, List, false, if◌then◌else◌, ap, arith, slice_index_or}
+use Rattle.std.proofs.Common.{◌≡◌, ◌∙◌, ◌-◌, ◌<◌, ◌≤◌, if◌then◌else◌, ap, arith}
+use Rattle.std.specs.Prelude.{not}
+use Rattle.site_types.specs.Bits.{has_bit}
 use Rattle.panel_links.specs.Words.{left_of, right_of}
 use Rattle.panel_links.specs.Stands.{is_up_in, kept_in}
 use Rattle.panel_links.proofs.Turns.{InRing, left_in, turned}
@@ -7,11 +9,12 @@ use Rattle.panel_links.proofs.ring.Ring.telling_turn.Goals as goal
 pub returns-clause-stands : goal.returns-clause-stands
 returns-clause-stands c panels calls stands =
     let before = c.args.self.now in
-    let mid = c.keep.new.self in
+    let mid = c.renew_oldest.new.self in
     let after = c.take_newest.new.self in
     let panel = c.args.panel in
     let p0 = stands.size in
-    let p1 = c.keep.ensures.panels in
+    let p1 = c.renew_oldest.ensures.panels ∙ c.keep.ensures.panels in
+    let l1 = c.renew_oldest.ensures.links ∙ c.keep.ensures.links in
     let p2 = c.take_newest.ensures.panels in
     let alone = c.if-self-eq1.false in
     let several : 1 < panels = (let some = c.requires.0 in let last = c.requires.1 in omega (arith, alone, some, last, p0, p1)) in
@@ -26,16 +29,16 @@ returns-clause-stands c panels calls stands =
           turned panels c.args.now.0 panel c.args.own calls (kept_in before) (kept_in mid) (kept_in after) several within
           c.over-before.result c.over-after.result (is_up_in mid (left_of panels panel)) (is_up_in mid panel)
           (λ x y hx hy. stands.words x y (hx.0, omega (arith, hx.1)) (hy.0, omega (arith, hy.1)))
-          (λ x y hx hy. c.keep.ensures.words x y (hx.0, omega (arith, hx.1)) (hy.0, omega (arith, hy.1)))
+          (λ x y hx hy. c.renew_oldest.ensures.words x y ∙ c.keep.ensures.words x y (hx.0, omega (arith, hx.1)) (hy.0, omega (arith, hy.1)))
           (λ x y hx hy. rw (p1, p0) at (c.take_newest.ensures.words x y (hx.0, omega (arith, hx.1)) (hy.0, omega (arith, hy.1))))
           (c.over-before.ensures ∙ ap (λ l. if is_up_in mid l then l else panel) left)
           (c.over-after.ensures ∙ ap (λ r. if is_up_in mid panel then r else panel) right)
-          (ap (λ (up : List Bool). slice_index_or up (left_of panels panel - 1) false) c.keep.ensures.links
+          (ap (λ down. not (has_bit down (left_of panels panel - 1))) l1
           ∙ stands.links (left_of panels panel) here.0 (omega (arith, here.1)))
-          (ap (λ (up : List Bool). slice_index_or up (panel - 1) false) c.keep.ensures.links
+          (ap (λ down. not (has_bit down (panel - 1))) l1
           ∙ stands.links panel within.0 (omega (arith, within.1)))
           a o (ha.0, omega (arith, ha.1)) (ho.0, omega (arith, ho.1));
       links =
-          λ link low high. ap (λ (up : List Bool). slice_index_or up (link - 1) false)
-          (c.take_newest.ensures.links ∙ c.keep.ensures.links) ∙ stands.links link low high;
+          λ link low high. ap (λ down. not (has_bit down (link - 1)))
+          (c.take_newest.ensures.links ∙ l1) ∙ stands.links link low high;
     }

@@ -1,4 +1,4 @@
-use Rattle.std.proofs.Common.{◌≡◌, ◌+◌, ◌==◌, ◌&&◌, ◌∷◌, map, refl, ◌∙◌, ap}
+use Rattle.std.proofs.Common.{◌≡◌, ◌+◌, ◌==◌, ◌&&◌, ◌∷◌, length, map, refl, ◌∙◌, ap, arith}
 use Rattle.std.specs.List.{filter_map, list_any}
 use Rattle.site_types.specs.Bits.{has_bit}
 use Rattle.site_types.proofs.Masks.{mask_same}
@@ -11,6 +11,7 @@ use Rattle.routing_outputs.proofs.Confirming.{on_at, confirmed_at, late_at, late
 use Rattle.tick_units.proofs.Listed.{map_found}
 use Rattle.routing_outputs.proofs.Runs.{output_turned, on_turned, confirmed_turned}
 use Rattle.output_lists.proofs.Turning.{placed_states, turned_states}
+use Rattle.routing_outputs.proofs.NoneWatched.{none_turned}
 use Rattle.routing_outputs.proofs.routing.Routing.turn.Goals as goal
 
 pub returns : goal.returns
@@ -51,3 +52,8 @@ invariant_of-self c =
     let items = c.args.self.now.outputs.items in
     let given : c.turn_outputs-self.new.outputs ≡ map f items = c.turn_outputs-self.ensures.outputs ∙ ap (map f) c.as_mut_slice.ensures.value in
     record { placed = placed_states f (λ output. output.place) (λ output. refl) items c.turn_outputs-self.new.outputs c.args.self.now.placed given }
+
+pub returns-then-is_empty : goal.returns-then-is_empty
+returns-then-is_empty c site panel limit calls stands =
+    let few : length c.args.self.now.outputs.items ≡ 0 = grind (arith, c.is_empty.ensures, c.if-is_empty.true) in
+    none_turned site panel limit calls c.args.self.now few stands c.args.now c.args.on

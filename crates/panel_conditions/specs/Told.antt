@@ -1,0 +1,30 @@
+-- What the last findings of points told of them: for each place, whether it was told missing. It is kept as a set.
+use Rattle.std.specs.Prelude.{◌≡◌, ◌≢◌, ◌⊎◌, ◌+◌, ◌<◌, ◌≤◌, ℕ, Bool, List, Some, map, slice_get}
+use Rattle.std.specs.List.{range_with_len}
+use Rattle.site_types.specs.Bits.{has_bit}
+use Rattle.coincidence_rules.specs.declared.finding.Finding.{Finding}
+use Rattle.answer_lanes.specs.declared.run.Run.{Run}
+use Rattle.answer_lanes.specs.declared.finding_group.FindingGroup.{FindingGroup}
+use Rattle.answer_lanes.specs.declared.place_set.PlaceSet.{PlaceSet}
+use Rattle.answer_lanes.specs.Places.{has_place}
+use Rattle.answer_lanes.specs.Points.{finding_at}
+use Rattle.panel_conditions.specs.Missing.{missing_found}
+
+-- the first places, so many, as the list of which of them a set has
+abbrev pub are_places : PlaceSet → ℕ → List Bool
+are_places set count = map (has_place set) (range_with_len 0 count)
+
+-- by the places of points, whether the last finding of each told it missing
+abbrev pub TellMissing : List Finding → List Bool → Type 0
+TellMissing taken told = (place : ℕ) (b : Bool) → slice_get told place ≡ Some b
+    → b ≡ missing_found taken place
+
+-- the last finding of each point of a run told it missing, or not, as the run does
+abbrev pub AreTold : List Bool → Run FindingGroup → Type 0
+AreTold told run = (place : ℕ) → run.taken ≤ place → place < run.taken + run.count
+    → slice_get told (finding_at run.first place).point ≡ Some (has_bit run.first.missing place)
+
+-- one mark is set, where the point has one
+abbrev pub MarksTold : ℕ → Bool → List Bool → List Bool → Type 0
+MarksTold place missing old new' = (k : ℕ) (b : Bool) → slice_get new' k ≡ Some b
+    → ((k ≡ place) × (missing ≡ b)) ⊎ ((k ≢ place) × (slice_get old k ≡ Some b))

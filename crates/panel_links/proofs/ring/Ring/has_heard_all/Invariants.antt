@@ -1,6 +1,0 @@
-use Rattle.std.proofs.Common.{ℕ, ◌<◌, ◌≤◌}
-use Rattle.panel_links.specs.Stands.{HasPanel, kept_in}
-use Rattle.panel_links.proofs.ring.Ring.has_heard_all.Given as goal
-
-abbrev pub invariant-loop-of : goal.invariant-loop-of
-invariant-loop-of l = (o : ℕ) → HasPanel l.self o → o < l.of → l.earliest ≤ (kept_in l.self l.panel o).stamp.0

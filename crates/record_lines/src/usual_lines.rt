@@ -1,0 +1,136 @@
+//! The lines that most of a record is, read in one pass where a piece begins with the whole of one: the tick
+//! that comes next, the order of a tick and what a point is at. They are known as they are printed; every other
+//! line, and each that is to be refused, goes the long way.
+
+ghost use Rattle.std.specs.Prelude.{◌≡◌, ◌<◌, ◌≤◌, [], IfSome, decimal, length, map};
+ghost use Rattle.record_lines.specs.Printed.{HasInFront, joined, line_text, point_state_word, seat_text};
+ghost use Rattle.record_lines.specs.declared.line.Line.TheVariants.{Event as EventLine, Order as OrderLine};
+ghost use Rattle.record_lines.specs.declared.line.Line.TheVariants.{Tick as TickLine};
+ghost use Rattle.site_types.specs.Valid.{IsValid};
+ghost use Rattle.site_types.specs.declared.event.Event.TheVariants.{Point as PointEvent};
+ghost use Rattle.site_types.specs.declared.site.Site.{Site as SiteOf};
+ghost use Rattle.tick_units.specs.Ticks.{last_tick};
+
+use crate::event_lines::find_point;
+use crate::words::task;
+use arrayvec::ArrayVec;
+use line_fields::split_field;
+use site_types::{PointState, Site};
+use tick_units::{Seat, Task, Tick};
+
+/// How many bytes the line of a tick takes at the front of a piece, if it stands there.
+pub fn tick_in_front(piece: &[u8], tick: Tick) -> Option<usize>
+    requires { tick.0 ≤ last_tick }
+    ensures { (site : SiteOf)
+        → IfSome result (λ used. HasInFront (line_text site (TickLine tick)) piece.now used) }
+{
+    match piece {
+        [b't', b'i', b'c', b'k', b' ', number @ ..] => Some(5 + number_in_front(number, tick.0)?),
+        _ => None,
+    }
+}
+
+// How many bytes a number and a line end take at the front of a text, if they stand there.
+fn number_in_front(text: &[u8], number: u64) -> Option<usize>
+    requires { number ≤ last_tick }
+    ensures { IfSome result (λ used. HasInFront (decimal number) text.now used) }
+{
+    let [b'1'..=b'9', ..] = text else {
+        return None;
+    };
+    let mut value = 0;
+    for (place, byte) in text.iter().enumerate() {
+        if !byte.is_ascii_digit() {
+            return if *byte == b'\n' && value == number {
+                Some(place + 1)
+            } else {
+                None
+            };
+        }
+        if value > number {
+            return None;
+        }
+        value = 10 * value + (*byte - b'0') as u64;
+    }
+    None
+}
+
+/// How many bytes the line of an order takes at the front of a piece, if one stands there, and its seats.
+pub fn order_in_front(piece: &[u8], seats: &mut ArrayVec<Seat, 65>) -> Option<usize>
+    requires { seats.old.items ≡ [] }
+    ensures { (site : SiteOf) → IfSome result
+        (λ used. HasInFront (line_text site (OrderLine seats.new.items)) piece.now used) }
+{
+    match piece {
+        [b'o', b'r', b'd', b'e', b'r', fields @ ..] => Some(5 + seats_in_front(fields, seats)?),
+        _ => None,
+    }
+}
+
+// How many bytes seats and a line end take at the front of a text, if they stand there, each seat behind a space.
+fn seats_in_front(text: &[u8], seats: &mut ArrayVec<Seat, 65>) -> Option<usize>
+    requires { seats.old.items ≡ [] }
+    ensures { IfSome result
+        (λ used. HasInFront (joined [] (map seat_text seats.new.items)) text.now used) }
+{
+    let mut used = 0;
+    let mut rest = text;
+    while !seats.is_full() {
+        match rest {
+            [b' ', letter, digit, behind @ ..] if digit.is_ascii_digit() => {
+                let task = task(*letter)?;
+                seats.push(Seat {
+                    panel: *digit - b'0',
+                    task,
+                });
+                used += 3;
+                rest = behind;
+            }
+            [b' ', b'k', behind @ ..] => {
+                seats.push(Seat {
+                    panel: 0,
+                    task: Task::Keep,
+                });
+                used += 2;
+                rest = behind;
+            }
+            _ => break,
+        }
+    }
+    match rest {
+        [b'\n', ..] => Some(used + 1),
+        _ => None,
+    }
+}
+
+/// How many bytes the line of a point takes at the front of a piece, if one stands there, the point and what it
+/// is at.
+pub fn report_in_front(site: &Site, piece: &[u8]) -> Option<(usize, u16, PointState)>
+    requires { IsValid site.now }
+    ensures line { IfSome result (λ found. HasInFront
+        (line_text site.now (EventLine (PointEvent found.1 found.2))) piece.now found.0) }
+    ensures known { IfSome result (λ found. found.1 < length site.now.points) }
+{
+    match piece {
+        [b'p', b'o', b'i', b'n', b't', b' ', named @ ..] => {
+            let (name, word) = split_field(named);
+            let (used, state) = state_in_front(word)?;
+            let point = find_point(site, name)?;
+            Some((7 + name.len() + used, point, state))
+        }
+        _ => None,
+    }
+}
+
+// How many bytes the word of a point's state and a line end take at the front of a text, if they stand there, and
+// the state.
+fn state_in_front(text: &[u8]) -> Option<(usize, PointState)>
+    ensures { IfSome result (λ found. HasInFront (point_state_word found.1) text.now found.0) }
+{
+    match text {
+        [b'q', b'u', b'i', b'e', b't', b'\n', ..] => Some((6, PointState::Quiet)),
+        [b'a', b'l', b'a', b'r', b'm', b'\n', ..] => Some((6, PointState::Alarm)),
+        [b'g', b'o', b'n', b'e', b'\n', ..] => Some((5, PointState::Gone)),
+        _ => None,
+    }
+}
