@@ -7,11 +7,14 @@ pub(crate) enum Kind {
     Line,
     /// Whether the plain program counts the same.
     Plain,
+    /// How much the parts of panel 1 have taken after each tick.
+    Taken,
 }
 
 /// The kinds by name.
-pub(crate) const KINDS: [(&str, Kind); 3] = [
+pub(crate) const KINDS: [(&str, Kind); 4] = [
     ("file", Kind::File),
     ("line", Kind::Line),
     ("plain", Kind::Plain),
+    ("taken", Kind::Taken),
 ];

@@ -17,7 +17,6 @@ use std::alloc::Global;
 use std::marker::Brand;
 use std::sync::ledger::{Blank, Ledger};
 use tick_units::{Order, Task, Tick};
-use trial_base::Report;
 
 /// How many calls and written bytes the log of a disk has room for.
 const MOST_CALLS: usize = 4_000;
@@ -48,24 +47,6 @@ pub fn opened(alloc: Global, site: Site, fails: Vec<u64>) -> Result<Installation
         disk,
         events: 0,
     })
-}
-
-/// The next tick: those of the reports that come in it, and its turns in an order.
-pub fn run_tick(own: &mut Installation, panels: u8, reports: &[Report], order: &Order) -> Result<()>
-    requires between { IsBetween panels own.old }
-    requires ordered { IsOrder panels order.now }
-    ensures { IfOk result (λ _. IsBetween panels own.new) }
-{
-    let tick = begin(own, panels)?;
-    for report in reports {
-        if report.tick == tick {
-            let point = report.point;
-            let state = report.state;
-            happen(own, panels, &Event::Point { point, state })?;
-        }
-    }
-    turn_all(own, panels, order);
-    Ok(())
 }
 
 /// The next tick: its events, and its turns in an order. Tells what Keep's turn answered.
@@ -136,15 +117,6 @@ fn turn_counted<L: Ledger>(own: &mut Installation, panels: u8, order: &Order, bl
     let mut steps: Steps<L> = Steps::new(blank);
     own.system
         .turns(order, &mut own.journal, &mut own.disk, &mut steps)
-}
-
-/// The zones that a panel shows of its own in alarm, and those in first state.
-pub fn shown(own: &Installation, panels: u8, panel: u8) -> (u32, u32)
-    requires between { IsBetween panels own.now }
-    requires first { 1 ≤ panel }
-    requires last { panel ≤ panels }
-{
-    (own.system.zones(panel), own.system.first(panel))
 }
 
 /// All that a panel shows.

@@ -10,6 +10,6 @@ mod driving;
 mod installation;
 mod orders;
 
-pub use driving::{face_of, opened, run_events, run_tick, shown, taken};
+pub use driving::{face_of, opened, run_events, taken};
 pub use installation::Installation;
 pub use orders::{order_of, tested_order};

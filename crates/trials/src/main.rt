@@ -15,8 +15,6 @@ fn main(rt: HostRuntime) -> Result<()> {
         "site" => site_trials::answer_list(&rt, list),
         "part" => part_trials::answer_list(&rt, list),
         "output" => output_trials::answer_list(&rt, list),
-        "panel" => panel_trials::answer_list(&rt, list),
-        "lane" => lane_trials::answer_list(&rt, list),
         "node" => node_trials::answer_list(&rt, list),
         "text" => text_trials::answer_list(&rt, list),
         "audit" => audit_trials::answer_list(&rt, list),
