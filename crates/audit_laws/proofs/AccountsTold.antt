@@ -15,7 +15,7 @@ use Rattle.site_types.proofs.Masks.{has_bit-mask}
 use Rattle.site_types.proofs.ValidSites.{output_at, output_numbers}
 use Rattle.face_text.specs.declared.face.Face.{Face}
 use Rattle.face_text.specs.declared.group.Group.TheVariants.{Outputs}
-use Rattle.face_text.specs.Reading.{face_at}
+use Rattle.face_reading.specs.Reading.{face_at}
 use Rattle.face_text.specs.Slots.{shows}
 use Rattle.panel_rules.specs.Moments.{TickBlock, moments, tick_of, up_to}
 use Rattle.panel_rules.specs.Operations.{operations}

@@ -11,7 +11,7 @@ use Rattle.site_types.specs.declared.site.Site.{Site}
 use Rattle.face_text.specs.declared.face.Face.{Face}
 use Rattle.face_text.specs.declared.step.Step.{Step}
 use Rattle.face_text.specs.Faces.{empty_face}
-use Rattle.face_text.specs.Reading.{face_at}
+use Rattle.face_reading.specs.Reading.{face_at}
 use Rattle.panel_rules.specs.Moments.{Moment, moments, tick_of, up_to}
 use Rattle.panel_rules.specs.Timeline.{face_of, faces_of, is_told, step_of, timeline_of}
 use Rattle.panel_laws.proofs.Steps.{up_to_tick, untold_is_same}

@@ -14,7 +14,7 @@ use Rattle.coincidence_rules.proofs.ValidWired.{wired_of}
 use Rattle.coincidence_rules.proofs.ZoneMasks.{has_bit-zone}
 use Rattle.face_text.specs.declared.face.Face.{Face}
 use Rattle.face_text.specs.Faces.{empty_face}
-use Rattle.face_text.specs.Reading.{face_at}
+use Rattle.face_reading.specs.Reading.{face_at}
 use Rattle.panel_rules.specs.Timeline.{face_of, faces_of}
 use Rattle.panel_laws.proofs.Away.{point_bit}
 use Rattle.audit_rules.specs.ToldDone.{retained_by}

@@ -10,9 +10,9 @@ use Rattle.record_lines.specs.declared.over.Over.TheVariants.{Ended, Refused}
 use Rattle.record_lines.specs.declared.refusal.Refusal.{Refusal}
 use Rattle.record_lines.specs.Lines.{reading_of}
 use Rattle.face_text.specs.declared.timeline.Timeline.{Timeline}
-use Rattle.face_text.specs.Reading.{IsBadLine, IsRead, MayGoOn, first_lines, line_ends}
+use Rattle.face_reading.specs.Reading.{IsBadLine, IsRead, MayGoOn, first_lines, line_ends}
 use Rattle.face_text.specs.Timelines.{IsInForm, text_of}
-use Rattle.face_text.proofs.SameTexts.{texts_are_their_own}
+use Rattle.face_reading.proofs.SameTexts.{texts_are_their_own}
 use Rattle.panel_rules.specs.Moments.{TickBlock}
 use Rattle.audit_rules.specs.declared.verdict.Verdict.{Verdict}
 use Rattle.audit_rules.specs.declared.verdict.Verdict.TheVariants.{Passed, Failed, Record, Text}

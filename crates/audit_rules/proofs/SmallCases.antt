@@ -16,7 +16,7 @@ use Rattle.face_text.specs.declared.group.Group.TheVariants.{Zones, Outputs}
 use Rattle.face_text.specs.declared.step.Step.{Step}
 use Rattle.face_text.specs.declared.timeline.Timeline.{Timeline}
 use Rattle.face_text.specs.Faces.{empty_face}
-use Rattle.face_text.specs.Reading.{face_at}
+use Rattle.face_reading.specs.Reading.{face_at}
 use Rattle.face_text.specs.Slots.{shows}
 use Rattle.panel_rules.specs.Caused.{IsCausedAt}
 use Rattle.panel_rules.specs.Due.{IsDue, IsHeld, by_one, own as own_due, reached_at}

@@ -20,7 +20,7 @@ use Rattle.face_text.specs.declared.face.Face.{Face}
 use Rattle.face_text.specs.declared.step.Step.{Step}
 use Rattle.face_text.specs.declared.timeline.Timeline.{Timeline}
 use Rattle.face_text.specs.Faces.{empty_face}
-use Rattle.face_text.specs.Reading.{no_answers}
+use Rattle.face_reading.specs.Reading.{no_answers}
 use Rattle.panel_rules.specs.Moments.{TickBlock}
 use Rattle.audit_rules.specs.declared.audit_rule.AuditRule.TheVariants.{Indication, Zone as ZoneRule}
 use Rattle.audit_rules.specs.declared.verdict.Verdict.TheVariants.{Passed, Failed}

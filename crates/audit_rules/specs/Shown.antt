@@ -8,7 +8,7 @@ use Rattle.face_text.specs.declared.group.Group.TheVariants.{Zones, Outputs}
 use Rattle.face_text.specs.declared.step.Step.{Step}
 use Rattle.face_text.specs.declared.timeline.Timeline.{Timeline}
 use Rattle.face_text.specs.Faces.{is_in_fault}
-use Rattle.face_text.specs.Reading.{face_at}
+use Rattle.face_reading.specs.Reading.{face_at}
 use Rattle.face_text.specs.Slots.{shows}
 
 -- the faces after a tick, with the steps after some faces, whose ticks rise

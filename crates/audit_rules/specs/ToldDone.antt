@@ -11,7 +11,7 @@ use Rattle.face_text.specs.declared.op_answer.OpAnswer.{OpAnswer}
 use Rattle.face_text.specs.declared.reply.Reply.{Reply}
 use Rattle.face_text.specs.declared.reply.Reply.TheVariants.{Done as DoneReply, Denied, Waiting, Already, Store}
 use Rattle.face_text.specs.declared.step.Step.{Step}
-use Rattle.face_text.specs.Reading.{face_at}
+use Rattle.face_reading.specs.Reading.{face_at}
 use Rattle.panel_rules.specs.Operations.{Request, done_in}
 
 -- the operation of a number

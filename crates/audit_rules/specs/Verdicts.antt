@@ -6,7 +6,7 @@ use Rattle.record_lines.specs.declared.refusal.Refusal.{Refusal}
 use Rattle.record_lines.specs.declared.why.Why.TheVariants.{Truncated}
 use Rattle.record_lines.specs.Lines.{reading_of}
 use Rattle.face_text.specs.declared.timeline.Timeline.{Timeline}
-use Rattle.face_text.specs.Reading.{IsBadLine, IsRead}
+use Rattle.face_reading.specs.Reading.{IsBadLine, IsRead}
 use Rattle.panel_rules.specs.Moments.{TickBlock}
 use Rattle.audit_rules.specs.declared.audit_rule.AuditRule.TheVariants.{Length}
 use Rattle.audit_rules.specs.declared.verdict.Verdict.{Verdict}

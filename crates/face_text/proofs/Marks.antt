@@ -5,7 +5,7 @@ use Rattle.std.specs.Int.Bits.{bit_xor}
 use Rattle.site_types.specs.Bits.{bit_of, half_of, has_bit}
 use Rattle.face_text.specs.declared.group.Group.{Group}
 use Rattle.face_text.specs.Slots.{last_of}
-use Rattle.face_text.proofs.PageOrder.{last_small}
+use Rattle.face_text.proofs.Pages.{last_small}
 use Rattle.face_text.proofs.SameBits.{other_bit, same_bit}
 
 -- whether a number stands in a pair of masks

@@ -18,6 +18,10 @@ reply_words Store = codes " store\n"
 abbrev pub answer_line : OpAnswer → List ℕ
 answer_line answer = codes "op " ++ decimal answer.number ++ reply_words answer.reply
 
+-- the line of a panel that operations found busy
+abbrev pub counted_line : ℕ → ℕ → List ℕ
+counted_line panel count = decimal panel ++ codes " busy " ++ decimal count ++ codes "\n"
+
 -- the line of a panel that so many operations found busy; none where there was no such operation
 abbrev pub busy_line : ℕ → ℕ → List ℕ
 busy_line panel count =

@@ -1,15 +1,8 @@
 pub mod Answers
 pub mod Changes
-pub mod Entries
-pub mod EntryLines
 pub mod Faces
 pub mod Holding
 pub mod Lists
 pub mod NextNames
-pub mod ReadSoFar
-pub mod ReadingLaws
-pub mod Reading
 pub mod Slots
-pub mod Spelled
-pub mod Telling
 pub mod Timelines

@@ -5,8 +5,7 @@ ghost use Rattle.std.specs.List.{flat_map};
 ghost use Rattle.panel_edges.specs.Contents.{Grows, GrowsByFront};
 ghost use Rattle.panel_edges.specs.Faults.{HasCause};
 ghost use Rattle.face_text.specs.Answers.{answer_line as line_of_answer, answers_text, busy_line as line_of_busy};
-ghost use Rattle.face_text.specs.Answers.{busy_text, failed_text, reply_words};
-ghost use Rattle.face_text.specs.Entries.{counted_line as line_of_count};
+ghost use Rattle.face_text.specs.Answers.{busy_text, counted_line as line_of_count, failed_text, reply_words};
 ghost use Rattle.face_text.specs.Holding.{Puts};
 
 use crate::answers::Answers;
@@ -95,7 +94,7 @@ fn push_failed<K: Sink>(failed: bool, held: &mut Held, out: &mut K) -> Result<()
     }
 }
 
-/// The line of an answer.
+/// The line of an answer, with its end.
 pub fn answer_line(answer: &OpAnswer) -> ArrayString<64>
     ensures text { result.bytes ≡ line_of_answer answer.now }
     ensures short { length result.bytes ≤ 64 }
@@ -148,7 +147,7 @@ fn busy_line(panel: u8, count: u64) -> ArrayString<64>
     }
 }
 
-/// The line of a panel that so many operations found busy.
+/// The line of a panel that so many operations found busy, with its end.
 pub fn counted_line(panel: u8, count: u64) -> ArrayString<64>
     ensures text { result.bytes ≡ line_of_count panel count }
     ensures short { length result.bytes ≤ 64 }

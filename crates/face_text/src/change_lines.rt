@@ -95,7 +95,7 @@ pub fn line_head(panel: u8, group: Group) -> ArrayString<32>
     head
 }
 
-/// The line of a thing that has this name; nothing where the site has none.
+/// The line of a thing that has this name, with its end; nothing where the site has none.
 pub fn named_line(panel: u8, group: Group, name: &Option<Label>, on: bool) -> ArrayString<64>
     ensures text { result.bytes ≡ line_of_thing panel group (number_of_truth on)
         (option_map (λ label. label.bytes) name.now) }
@@ -139,7 +139,7 @@ pub fn push_named<K: Sink>(
     Ok(())
 }
 
-/// The line that tells whether the delays of a panel are on.
+/// The line that tells whether the delays of a panel are on, with its end.
 pub fn delays_line(panel: u8, on: bool) -> ArrayString<64>
     ensures text { result.bytes ≡ line_of_delays panel (number_of_truth on) }
     ensures short { length result.bytes ≤ 64 }
@@ -152,7 +152,7 @@ pub fn delays_line(panel: u8, on: bool) -> ArrayString<64>
     line
 }
 
-/// The line that tells what the buzzer of a panel sounds.
+/// The line that tells what the buzzer of a panel sounds, with its end.
 pub fn buzzer_line(panel: u8, buzzer: Buzzer) -> ArrayString<64>
     ensures text { result.bytes ≡ line_of_buzzer panel (number_of_buzzer buzzer) }
     ensures short { length result.bytes ≤ 64 }
@@ -165,7 +165,7 @@ pub fn buzzer_line(panel: u8, buzzer: Buzzer) -> ArrayString<64>
     line
 }
 
-/// The line of the counter of a panel.
+/// The line of the counter of a panel, with its end.
 pub fn counter_line(panel: u8, counter: u32) -> ArrayString<64>
     ensures text { result.bytes ≡ line_of_counter panel counter }
     ensures short { length result.bytes ≤ 64 }

@@ -7,25 +7,18 @@
 //! The page of a panel is a table of slots (`specs/Slots`): each slot has a value in every face, and a line
 //! that tells it. The text of a change is the lines of the slots whose values differ, in the order of the
 //! page. The text of a whole run is a function of its timeline (`specs/Timelines`), as is which timelines a
-//! run can have.
-//!
-//! A line of such a text is read alone: its fields spell one entry at most (`specs/Spelled`), and the line is
-//! that entry's if the entry's own line, put together again, is the same. `proofs/EntryLaws` shows that the
-//! line of an entry determines it.
+//! run can have. `face_reading` reads such a text back, by the lines, names and masks that are made here:
+//! [`named_line`], [`answer_line`], [`name_of`], [`shows`] and what stands beside them.
 //!
 //! [`push_list`] puts a list of a face in JSON from the same slots.
 //!
-//! [`read_faces`] reads a text back (`reading`): to the timeline whose text it is, or to its first bad line.
-//! It is read line by line (`specs/Reading`): each line tells one [`Entry`], and what the lines before it told
-//! says whether it may stand there. That no two timelines have one text is [`texts_are_their_own`].
-//!
-//! No call but `read_faces` takes memory. Where two faces are equal, writing their changes compares a fixed
-//! number of machine words and looks at nothing of the site. Else a group of lines is looked at only where
-//! its mask differs, in it at what differs, and what is told of a group is named by one walk over the site's
-//! list of such things, and by a search of it where a panel's don't stand in the order of their numbers. Lines
-//! are held back in a room of 1,024 bytes, so that a text goes out in as few writes as that room allows. Where
-//! a tick has more to tell than one face, [`push_changes`] and [`push_answers`] put it behind what a [`Held`]
-//! holds already, and one [`Held::flush`] writes it.
+//! No call takes memory. Where two faces are equal, writing their changes compares a fixed number of machine
+//! words and looks at nothing of the site. Else a group of lines is looked at only where its mask differs, in
+//! it at what differs, and what is told of a group is named by one walk over the site's list of such things,
+//! and by a search of it where a panel's don't stand in the order of their numbers. Lines are held back in a
+//! room of 1,024 bytes, so that a text goes out in as few writes as that room allows. Where a tick has more to
+//! tell than one face, [`push_changes`] and [`push_answers`] put it behind what a [`Held`] holds already, and
+//! one [`Held::flush`] writes it.
 #![tactic(auto)]
 
 mod answer_lines;
@@ -47,24 +40,27 @@ mod next_names;
 mod op_answer;
 mod op_answers;
 mod page;
-mod reading;
 mod reply;
 mod step;
 mod timeline;
 mod words;
 
-pub use answer_lines::{push_answers, write_answers};
+pub use answer_lines::{answer_line, counted_line, push_answers, write_answers};
 pub use answers::Answers;
-pub use change_lines::{push_changes, write_changes};
+pub use change_lines::{
+    buzzer_line, counter_line, delays_line, named_line, push_changes, write_changes,
+};
 pub use conditions::Conditions;
 pub use face::Face;
 pub use face_list::FaceList;
 pub use group::Group;
 pub use held::Held;
 pub use lists::push_list;
+pub use masks::{last_number, shows};
+pub use naming::{is_panel, name_of};
 pub use op_answer::OpAnswer;
 pub use op_answers::{MOST_ANSWERS, OpAnswers};
-pub use reading::{Change, Entry, TextRefusal, read_faces, texts_are_their_own};
 pub use reply::Reply;
 pub use step::Step;
 pub use timeline::Timeline;
+pub use words::kind_word;

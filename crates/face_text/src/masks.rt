@@ -140,7 +140,7 @@ fn is_blank_loop(set: &PointSet, line: u8) -> bool
     set.loops[line as usize - 1] == [0, 0]
 }
 
-/// The greatest number of a group.
+/// The greatest number that a thing of a group may have in any site.
 pub fn last_number(group: Group) -> u8
     ensures { result ≡ last_of group }
 {

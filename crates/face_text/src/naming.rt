@@ -10,7 +10,8 @@ use crate::group::Group;
 use itoa::Buffer;
 use site_types::{Label, Site};
 
-/// How the page of a panel names the thing of a group with a number, if the site has it.
+/// How the page of a panel names the thing of a group with a number, if the site has it. It goes once over the
+/// list in which the site has such things.
 pub fn name_of(site: &Site, panel: u8, group: Group, number: u8) -> Option<Label>
     ensures { option_map (λ label. label.bytes) result ≡ name_in site.now panel group number }
 {
@@ -80,7 +81,7 @@ fn has_loop(site: &Site, panel: u8, line: u8) -> bool
         .any(|plan| plan.panel == panel && plan.line == line)
 }
 
-/// Whether a site has a panel.
+/// Whether a site has a panel with this number, counted from 1.
 pub fn is_panel(site: &Site, panel: u8) -> bool
     ensures { result ≡ site_has_panel site.now panel }
 {

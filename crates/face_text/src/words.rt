@@ -29,7 +29,8 @@ pub fn group_word(group: Group) -> &'static str
     }
 }
 
-/// The kind of a fault or of a disabled thing, in front of its name.
+/// The kind of a fault or of a disabled thing, with a space behind it, as it stands in front of the name; empty
+/// for a group whose lines have none.
 pub fn kind_word(group: Group) -> &'static str
     ensures word { result.now ≡ kind_of group }
     ensures short { length result.now ≤ 12 }

@@ -8,7 +8,7 @@ use Rattle.record_lines.specs.declared.over.Over.TheVariants.{Ended, Refused}
 use Rattle.record_lines.specs.declared.refusal.Refusal.{Refusal}
 use Rattle.record_lines.specs.Lines.{reading_of}
 use Rattle.face_text.specs.declared.timeline.Timeline.{Timeline}
-use Rattle.face_text.specs.Reading.{IsRead}
+use Rattle.face_reading.specs.Reading.{IsRead}
 use Rattle.audit_rules.specs.declared.verdict.Verdict.{Verdict}
 use Rattle.audit_rules.specs.declared.verdict.Verdict.TheVariants.{Record}
 use Rattle.audit_rules.specs.RecordTicks.{ticks_of_record}

@@ -2,7 +2,7 @@
 
 ghost use Rattle.std.specs.Prelude.{◌≡◌};
 ghost use Rattle.audit_rules.specs.ToldDone.{retained_by};
-ghost use Rattle.face_text.specs.Reading.{face_at};
+ghost use Rattle.face_reading.specs.Reading.{face_at};
 
 use face_text::Face;
 use site_types::{PointSet, Retained, mask_from_8};

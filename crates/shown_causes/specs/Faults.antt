@@ -6,7 +6,7 @@ use Rattle.face_text.specs.declared.face.Face.{Face}
 use Rattle.face_text.specs.declared.step.Step.{Step}
 use Rattle.face_text.specs.declared.timeline.Timeline.{Timeline}
 use Rattle.face_text.specs.Faces.{is_in_fault}
-use Rattle.face_text.specs.Reading.{face_at}
+use Rattle.face_reading.specs.Reading.{face_at}
 use Rattle.joined_panels.specs.Latest.{IsLatestTick}
 use Rattle.audit_rules.specs.Shown.{text_tells_fault}
 use Rattle.shown_causes.specs.declared.fault_told.FaultTold.{FaultTold}

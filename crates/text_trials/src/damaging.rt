@@ -5,7 +5,7 @@ ghost use Rattle.site_types.specs.Valid.{IsValid};
 
 use crate::plain_reader::bad_line;
 use anyhow::{Result, bail};
-use face_text::{TextRefusal, read_faces};
+use face_reading::{TextRefusal, read_faces};
 use site_types::Site;
 use std::alloc::{AllocError, Global};
 use std::fs;

@@ -3,7 +3,7 @@
 ghost use Rattle.site_types.specs.Valid.{IsValid};
 
 use anyhow::{Result, bail};
-use face_text::{TextRefusal, read_faces};
+use face_reading::{TextRefusal, read_faces};
 use site_types::Site;
 use std::alloc::Global;
 use std::fs;

@@ -1,5 +1,5 @@
 use Rattle.std.proofs.Common.{subst}
-use Rattle.face_text.specs.Reading.{IsRefusal}
+use Rattle.face_reading.specs.Reading.{IsRefusal}
 use Rattle.audit_rules.specs.Verdicts.{is_no_text}
 use Rattle.whole_records.specs.Whole.{IsWhyRefused}
 use Rattle.panel_audit.specs.Texts.{JudgesText}

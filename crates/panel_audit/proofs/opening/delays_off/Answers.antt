@@ -1,6 +1,6 @@
 use Rattle.std.proofs.Common.{◌≡◌, ◌∙◌, ◌+◌, ap}
 use Rattle.face_text.specs.declared.face.Face.{Face}
-use Rattle.face_text.specs.Reading.{face_at}
+use Rattle.face_reading.specs.Reading.{face_at}
 use Rattle.panel_audit.proofs.EightFlags.{mask_of_flags}
 use Rattle.panel_audit.proofs.opening.delays_off.Goals as goal
 

@@ -1,4 +1,4 @@
-use Rattle.face_text.proofs.SameTexts.{texts_are_their_own}
+use Rattle.face_reading.proofs.SameTexts.{texts_are_their_own}
 use Rattle.panel_rules.specs.Timeline.{timeline_of}
 use Rattle.panel_laws.proofs.TimelineForms.{in_form}
 use Rattle.panel_laws.proofs.forms.texts_tell_timelines.Goals as goal

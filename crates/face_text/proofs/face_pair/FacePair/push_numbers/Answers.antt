@@ -4,7 +4,7 @@ use Rattle.face_text.specs.Slots.{last_of, shows}
 use Rattle.face_text.proofs.Holding.{moves_as, moves_next, moves_none, puts_all, puts_broken}
 use Rattle.face_text.proofs.Listing.{numbers_begin, numbers_front, numbers_step}
 use Rattle.face_text.proofs.Marks.{marked_other, unmarked_same}
-use Rattle.face_text.proofs.PageOrder.{last_small}
+use Rattle.face_text.proofs.Pages.{last_small}
 use Rattle.face_text.proofs.face_pair.FacePair.push_numbers.Goals as goal
 
 pub loop-next-init : goal.loop-next-init

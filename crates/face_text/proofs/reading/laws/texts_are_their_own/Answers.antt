@@ -1,5 +1,0 @@
-use Rattle.face_text.proofs.SameTexts.{texts_are_their_own as law}
-use Rattle.face_text.proofs.reading.laws.texts_are_their_own.Goals as goal
-
-pub returns : goal.returns
-returns c = law

@@ -1,5 +1,0 @@
-use Rattle.face_text.proofs.Parting.{none_more}
-use Rattle.face_text.proofs.reading.lines.split_line.Goals as goal
-
-pub loop-place-preserved : goal.loop-place-preserved
-loop-place-preserved c = none_more c.args.text.now c.loop-place.place c.loop-place-test.true c.if-byte-eq10.false c.loop-place.invariant
