@@ -9,6 +9,7 @@ pub mod Masked
 pub mod FindingIs
 pub mod TakenAnswer
 pub mod PlainAlarms
+pub mod PlainZones
 pub mod Turned
 pub mod PlaceSets
 pub mod Resting

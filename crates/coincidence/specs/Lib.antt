@@ -1,5 +1,6 @@
 pub mod Parts
 pub mod Places
+pub mod PlainZones
 pub mod Resting
 pub mod Stands
 pub mod Observations

@@ -37,6 +37,7 @@ impl Decide {
     ghost use Rattle.coincidence_rules.specs.Counted.{is_alarm, is_silent};
     ghost use Rattle.coincidence.specs.Changes.{AppliesOperation, FindsNext, KeepsOthers, PutsFindings, TakesAnswers};
     ghost use Rattle.coincidence.specs.Changes.{TakesJudged};
+    ghost use Rattle.coincidence.specs.PlainZones.{KeepsKnown};
     ghost use Rattle.coincidence.specs.Queries.{AreKeptOf, FindsJudged, FindsLast, ObservesJudged, TellsCounted};
     ghost use Rattle.coincidence.specs.Queries.{TellsFloor, TellsFloorOf};
     ghost use Rattle.coincidence.specs.Queries.{TellsJudgement};
@@ -225,10 +226,11 @@ impl Decide {
     }
 
     // Takes note of an alarm of which this is said.
-    fn note_alarm(&mut self, answer: &Answer, judgement: &Judgement)
+    pub(crate) fn note_alarm(&mut self, answer: &Answer, judgement: &Judgement)
         requires { CanTake self.old (answer.now ∷ []) }
         ensures taken { TakesJudged self.old answer.now judgement.now self.new }
         ensures others { KeepsOthers answer.now.point self.old self.new }
+        ensures known { KeepsKnown self.old self.new }
     {
         let place = answer.point as usize;
         let point = self.points.at(place);

@@ -21,6 +21,7 @@
 //! the same, whatever the site. A turn takes no memory; only [`Decide::new`] does.
 #![tactic(auto)]
 
+mod alarms;
 mod bits;
 mod decide;
 mod gathering;
@@ -28,6 +29,7 @@ mod judgement;
 mod observation;
 mod partner_finding;
 mod partners;
+mod plain_zone;
 mod point_stamp;
 mod point_watch;
 mod point_watches;

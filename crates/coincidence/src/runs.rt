@@ -84,11 +84,12 @@ impl Decide {
             count: 0,
         };
         let mut left = changing;
+        let mut known = None;
         while left != 0 {
             let bit = lowest_bit(left);
             let place = run.taken + bit;
             found.count = place - found.taken;
-            let finding = self.take(&run.item(place));
+            let finding = self.take_near(&run.item(place), &mut known);
             gather_at(&finding, &run.first, &mut found, findings);
             left = with_bit_8(left, bit, false);
         }

@@ -1,5 +1,6 @@
-use Rattle.std.proofs.Common.{◌<◌, refl, sym, subst}
-use Rattle.coincidence.proofs.Watched.{point_small, zone_small, fits_next}
+use Rattle.std.proofs.Common.{◌<◌, Some, refl, sym, ◌∙◌, ap, subst}
+use Rattle.coincidence.proofs.PlainZones.{keeps_known, zone_there}
+use Rattle.coincidence.proofs.Watched.{point_small, zone_small, zone_watch_read, fits_next}
 use Rattle.coincidence.proofs.Observations.{floor_judged}
 use Rattle.coincidence.proofs.TakenAnswer.{others_noted, stands_noted}
 use Rattle.coincidence.proofs.decide.Decide.note_alarm.Goals as goal
@@ -34,3 +35,14 @@ pub returns-clause-others : goal.returns-clause-others
 returns-clause-others c =
     others_noted c.args.self.now.points c.args.answer.now.point c.args.answer.now.heard c.args.judgement.now.counted c.args.judgement.now.floor
     c.args.answer.now.stamp c.at-point.result.now c.at-point.ensures c.note.new.self c.note.ensures
+
+pub returns-clause-known : goal.returns-clause-known
+returns-clause-known c =
+    let q = c.requires in
+    let answer = c.args.answer.now in
+    let r = c.at-point.result.now in
+    let fits = fits_next q.site q.kept q.panel q.done q.taken answer q.may in
+    let z = c.index_mut-watch.result.now in
+    keeps_known c.args.self.now c.note.new.self r.zone c.may_pair.result answer.point answer.stamp z c.note-2.new.self
+    (zone_there q.stands answer fits r c.at-point.ensures
+    ∙ ap Some (sym (zone_watch_read q.stands answer.point fits.own r z c.at-point.ensures c.index_mut-watch.ensures.value))) c.note-2.ensures

@@ -4,6 +4,7 @@ use Rattle.answer_lanes.specs.Runs.{items_of}
 use Rattle.answer_lanes.proofs.Moving.{length_run}
 use Rattle.tick_units.specs.Lane.{HasRoom}
 use Rattle.coincidence.specs.Changes.{PutsFindings}
+use Rattle.coincidence.specs.PlainZones.{KnowsZone}
 use Rattle.coincidence.proofs.Passed.{all_found, all_taken, begun, can_reached, found_reached, passed, place_is, room_reached, told}
 use Rattle.coincidence.proofs.Turned.{held_behind}
 use Rattle.coincidence.proofs.decide.Decide.take_changing.Goals as goal
@@ -13,18 +14,23 @@ loop-left-init c = record {
   passes = begun c.args.self.now c.args.run.now c.args.findings.now c.plain_group.result c.args.changing c.plain_group.ensures.plain
       c.requires.tells;
   fits = c.ranges.changing.fits;
+  known = tt;
 }
 
-pub take-finding-requires : goal.take-finding-requires
-take-finding-requires c =
+pub take_near-finding-requires-clause-can : goal.take_near-finding-requires-clause-can
+take_near-finding-requires-clause-can c =
     let low = c.lowest_bit-bit.ensures in
     can_reached c.loop-left.invariant.passes c.lowest_bit-bit.result low.set low.none c.requires.can.may c.item.result c.item.ensures
+
+pub take_near-finding-requires-clause-known : goal.take_near-finding-requires-clause-known
+take_near-finding-requires-clause-known c =
+    subst (λ a. KnowsZone a.stamp.0 c.loop-left.self c.loop-left.known) (sym c.item.ensures) c.loop-left.invariant.known
 
 pub gather_at-requires-clause-own : goal.gather_at-requires-clause-own
 gather_at-requires-clause-own c =
     let low = c.lowest_bit-bit.ensures in
     found_reached c.loop-left.invariant.passes c.lowest_bit-bit.result low.set low.none c.requires.can.may c.item.result c.item.ensures
-    c.take-finding.result c.take-finding.ensures.found
+    c.take_near-finding.result c.take_near-finding.ensures.found
 
 pub gather_at-requires-clause-room : goal.gather_at-requires-clause-room
 gather_at-requires-clause-room c =
@@ -39,11 +45,12 @@ loop-left-preserved c =
     let g = c.gather_at.ensures in
     let at = place_is h bit low.set low.none in
     record {
-      passes = passed h bit low.set low.none c.requires.within c.item.result c.item.ensures c.take-finding.new.self c.take-finding.ensures.taken
-          c.take-finding.ensures.others c.take-finding.result c.take-finding.ensures.found c.gather_at.new.found c.gather_at.new.findings g.put
+      passes = passed h bit low.set low.none c.requires.within c.item.result c.item.ensures c.take_near-finding.new.self c.take_near-finding.ensures.taken
+          c.take_near-finding.ensures.others c.take_near-finding.result c.take_near-finding.ensures.found c.gather_at.new.found c.gather_at.new.findings g.put
           (g.place ∙ ap (λ n. n + 1) at) (λ k above. g.plain k (omega (arith, at, above))) c.with_bit_8-left.result c.with_bit_8-left.type_inv
           c.with_bit_8-left.ensures.this c.with_bit_8-left.ensures.others;
       fits = c.with_bit_8-left.type_inv;
+      known = subst (λ a. KnowsZone a.stamp.0 c.take_near-finding.new.self c.take_near-finding.new.known) c.item.ensures c.take_near-finding.ensures.known;
     }
 
 pub put_run-requires-clause-room : goal.put_run-requires-clause-room

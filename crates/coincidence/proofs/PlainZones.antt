@@ -1,0 +1,96 @@
+-- What is said of a plain zone at a tick stays so while answers are noted, and decides its alarms.
+use Rattle.std.proofs.Common.{◌≡◌, ⊎_elim, ℕ, ◌||◌, ◌&&◌, not, Bool, true, false, List, Some, slice_get, get_or, refl, sym, ◌∙◌, ap, subst}
+use Rattle.tick_units.specs.declared.tick.Tick.{Tick}
+use Rattle.tick_units.specs.declared.last_done.LastDone.{LastDone}
+use Rattle.site_types.specs.declared.site.Site.{Site}
+use Rattle.site_types.specs.declared.answer.Answer.{Answer}
+use Rattle.site_types.specs.declared.retained.Retained.{Retained}
+use Rattle.site_types.specs.Done.{Done}
+use Rattle.site_types.specs.declared.heard.Heard.{Heard}
+use Rattle.site_types.specs.declared.heard.Heard.TheVariants.{Alarm, Quiet, Silent}
+use Rattle.coincidence_rules.specs.Counted.{is_alarm, is_silent}
+use Rattle.coincidence.specs.declared.decide.Decide.{Decide}
+use Rattle.coincidence.specs.declared.plain_zone.PlainZone.{PlainZone}
+use Rattle.coincidence.specs.declared.point_watch.PointWatch.{PointWatch}
+use Rattle.coincidence.specs.declared.zone_watch.ZoneWatch.{ZoneWatch}
+use Rattle.coincidence.specs.Observations.{Judges}
+use Rattle.coincidence.specs.Parts.{switch_at, zone_noted}
+use Rattle.coincidence.specs.PlainZones.{IsOfPoint, IsSaid, KeepsKnown}
+use Rattle.coincidence.specs.Stands.{DecidesFor, Fits}
+use Rattle.coincidence.proofs.Judged.{counted_is, floor_is}
+use Rattle.coincidence.proofs.Observations.{judges_read}
+use Rattle.coincidence_rules.proofs.Lists.{get_set}
+use Rattle.std.specs.Vec.{with_item}
+use Rattle.std.proofs.lemmas.Option.{get_or_from_slice_get}
+use Rattle.coincidence.proofs.Watched.{read_is, watched, zone_read}
+
+-- a zone of which an answer is noted is the same but for its latest answers
+noted_same : (x : ℕ) (reset : LastDone) (zone : PlainZone) (pairs : Bool) (point : ℕ) (stamp : Tick) (watch : ZoneWatch)
+    → IsSaid x reset zone watch → IsSaid x reset zone (zone_noted pairs point stamp watch)
+noted_same x reset zone false point stamp watch h = h
+noted_same x reset zone true point stamp watch h =
+    record { rule = h.rule; partner = h.partner; number = h.number; blocked = h.blocked; floor = h.floor }
+
+-- what is said of any zone stays so where an answer of a point in a zone is noted
+pub keeps_known : (decide : Decide) (next : List PointWatch) (place : ℕ) (pairs : Bool) (point : ℕ) (stamp : Tick) (z y : ZoneWatch)
+    → slice_get decide.zones.items place ≡ Some z → y ≡ zone_noted pairs point stamp z
+    → KeepsKnown decide (record decide { points = next; zones = with_item decide.zones place y })
+keeps_known decide next place pairs point stamp z y there noted x zone h watch at =
+    ⊎_elim
+    (λ here.
+    subst (IsSaid x decide.reset zone) (sym noted ∙ here.1)
+    (noted_same x decide.reset zone pairs point stamp z (h z (ap (slice_get decide.zones.items) here.0 ∙ there))))
+    (λ other. h watch other.1)
+    (get_set decide.zones.items place zone.zone y watch at)
+
+-- what is kept of the zone of an answer's point, of which this is said
+pub record SaidOf (answer : Answer) (decide : Decide) (r : PointWatch) (zone : PlainZone) : Type 0 where
+  pub watch : ZoneWatch
+  pub read : watch ≡ get_or decide.zones.items r.zone watch
+  pub there : slice_get decide.zones.items r.zone ≡ Some watch
+  pub said : IsSaid answer.stamp.0 decide.reset zone watch
+
+module _ {site : Site} {kept : Retained} {panel : ℕ} {done : List Done} {taken : List Answer} {decide : Decide} (stands :
+    DecidesFor site kept panel done taken decide) (answer : Answer) (fits : Fits site panel done taken answer) (r : PointWatch)
+    (e : r ≡ get_or decide.points answer.point r) where
+  pub zone_there : slice_get decide.zones.items r.zone ≡ Some (watched stands answer.point fits.own).zone_watch
+  zone_there =
+      ap (slice_get decide.zones.items) (zone_read stands answer.point fits.own r e) ∙ (watched stands answer.point fits.own).is_zone_watch
+
+  pub point_same : (watch : PointWatch) → watch ≡ get_or decide.points answer.point watch → r ≡ watch
+  point_same watch read =
+      let w = watched stands answer.point fits.own in
+      read_is decide.points answer.point r w.watch e w.is_watch ∙ sym (read_is decide.points answer.point watch w.watch read w.is_watch)
+
+  pub said_of : (zone : PlainZone) → IsOfPoint answer decide zone → SaidOf answer decide r zone
+  said_of zone of =
+      let z = (watched stands answer.point fits.own).zone_watch in
+      record {
+        watch = z;
+        read = sym (get_or_from_slice_get decide.zones.items r.zone z z zone_there);
+        there = zone_there;
+        said = of.known z (ap (slice_get decide.zones.items) (of.own r e) ∙ zone_there);
+      }
+
+  -- an alarm in such a zone is judged by what is said of it, and by whether its point is disabled
+  pub judged_in : (zone : PlainZone) → IsOfPoint answer decide zone → is_alarm answer.heard ≡ true → (off counted : Bool)
+      → off ≡ switch_at answer.stamp.0 r.off → counted ≡ not (off || zone.blocked)
+      → Judges site kept done answer (record { counted = counted; floor = zone.floor })
+  judged_in zone of alarm off counted is_off is_counted_so =
+      let x = answer.stamp.0 in
+      let w = watched stands answer.point fits.own in
+      let s = said_of zone of in
+      let z = s.watch in
+      judges_read stands answer fits r e counted zone.floor
+      (is_counted_so ∙ ap (λ b. not (b || zone.blocked)) is_off ∙ ap (λ b. not (switch_at x r.off || b)) s.said.blocked
+      ∙ sym (ap (λ b. b && not (switch_at x r.off || (switch_at x z.off || switch_at x z.test))) alarm)
+      ∙ counted_is stands answer fits r z e s.read)
+      (s.said.floor
+      ∙ floor_is stands x r.zone w.zone fits.since (ap (slice_get site.zones) (zone_read stands answer.point fits.own r e) ∙ w.is_zone) w.zone_at z
+      s.read)
+
+-- an alarm isn't silent
+pub not_silent : (heard : Heard) → is_alarm heard ≡ true → is_silent heard ≡ false
+not_silent Alarm is = refl
+not_silent Quiet is = absurd (cc)
+not_silent Silent is = absurd (cc)

@@ -1,0 +1,38 @@
+-- What the operations done before a tick say of a zone whose alarms that count confirm and release it by themselves.
+use Rattle.std.specs.Prelude.{◌≡◌, ℕ, None, Option, Some, max, slice_get, slice_index_or, ◌||◌}
+use Rattle.tick_units.specs.declared.last_done.LastDone.{LastDone}
+use Rattle.tick_units.specs.LastTicks.{last_at}
+use Rattle.site_types.specs.declared.answer.Answer.{Answer}
+use Rattle.site_types.specs.declared.rule.Rule.TheVariants.{Plain}
+use Rattle.coincidence.specs.declared.decide.Decide.{Decide}
+use Rattle.coincidence.specs.declared.plain_zone.PlainZone.{PlainZone}
+use Rattle.coincidence.specs.declared.point_watch.PointWatch.{PointWatch}
+use Rattle.coincidence.specs.declared.zone_watch.ZoneWatch.{ZoneWatch}
+use Rattle.coincidence.specs.Parts.{switch_at}
+
+-- this is what they say of a zone of which this is kept, with the last reset of its panel
+pub record IsSaid (x : ℕ) (reset : LastDone) (zone : PlainZone) (watch : ZoneWatch) : Type 0 where
+  pub rule : watch.rule ≡ Plain
+  pub partner : watch.partner ≡ None
+  pub number : watch.number ≡ zone.number
+  pub blocked : zone.blocked ≡ (switch_at x watch.off || switch_at x watch.test)
+  pub floor : zone.floor.0 ≡ max (last_at x reset) (last_at x watch.moved)
+
+-- what is said so of a zone holds by what is kept
+abbrev pub IsKnown : ℕ → Decide → PlainZone → Type 0
+IsKnown x decide zone =
+    (watch : ZoneWatch) → slice_get decide.zones.items zone.zone ≡ Some watch → IsSaid x decide.reset zone watch
+
+-- the same, if anything is said
+abbrev pub KnowsZone : ℕ → Decide → Option PlainZone → Type 0
+KnowsZone x decide None = Unit {0}
+KnowsZone x decide (Some zone) = IsKnown x decide zone
+
+-- what is said of a zone stays so
+abbrev pub KeepsKnown : Decide → Decide → Type 0
+KeepsKnown old decide = (x : ℕ) (zone : PlainZone) → IsKnown x old zone → IsKnown x decide zone
+
+-- it is said of the zone of an answer's point, at the answer's tick
+pub record IsOfPoint (answer : Answer) (decide : Decide) (zone : PlainZone) : Type 0 where
+  pub known : IsKnown answer.stamp.0 decide zone
+  pub own : (watch : PointWatch) → watch ≡ slice_index_or decide.points answer.point watch → zone.zone ≡ watch.zone

@@ -1,0 +1,121 @@
+//! Alarms of one tick in a zone that each of them confirms and releases by itself: what the operations say of the zone
+//! is read once for all of them.
+
+ghost use Rattle.std.specs.Prelude.{◌≡◌, [], ◌∷◌, IfSome, slice_index_or, true};
+ghost use Rattle.coincidence_rules.specs.Counted.{is_alarm};
+
+use crate::bits::one_bit;
+use crate::decide::Decide;
+use crate::judgement::Judgement;
+use crate::plain_zone::PlainZone;
+use crate::point_watch::PointWatch;
+use crate::rules::is_on;
+use coincidence_rules::Finding;
+use site_types::{Answer, Heard};
+use tick_units::Tick;
+
+impl Decide {
+    ghost use Rattle.coincidence.specs.Changes.{FindsNext, KeepsOthers, TakesAnswers};
+    ghost use Rattle.coincidence.specs.PlainZones.{IsKnown, IsOfPoint, KnowsZone};
+    ghost use Rattle.coincidence.specs.Queries.{TellsJudgement};
+    ghost use Rattle.coincidence.specs.Stands.{CanObserve, CanTake};
+
+    // Takes an answer: what it means, by those taken up to it. What is known of a zone in its tick is kept for the next
+    // answer of that tick.
+    #[inline(always)]
+    pub(crate) fn take_near(&mut self, answer: &Answer, known: &mut Option<PlainZone>) -> Finding
+        requires can { CanTake self.old (answer.now ∷ []) }
+        requires known { KnowsZone answer.now.stamp.0 self.old known.old }
+        ensures taken { TakesAnswers self.old (answer.now ∷ []) self.new }
+        ensures found { FindsNext self.old answer.now result }
+        ensures others { KeepsOthers answer.now.point self.old self.new }
+        ensures known { KnowsZone answer.now.stamp.0 self.new known.new }
+    {
+        if matches!(answer.heard, Heard::Alarm) {
+            *known = self.zone_of(answer, *known);
+            if let Some(zone) = *known {
+                return self.take_plain(answer, &zone);
+            }
+        }
+        *known = None;
+        self.take(answer)
+    }
+
+    // What is known of the zone of an answer's point, if each of its alarms that counts confirms it by itself.
+    fn zone_of(&self, answer: &Answer, known: Option<PlainZone>) -> Option<PlainZone>
+        requires can { CanTake self.now (answer.now ∷ []) }
+        requires known { KnowsZone answer.now.stamp.0 self.now known }
+        ensures { IfSome result (IsOfPoint answer.now self.now) }
+    {
+        let point = self.points.at(answer.point as usize);
+        match known {
+            Some(zone) if zone.zone == point.zone => Some(zone),
+            _ => self.plain_zone(answer, point),
+        }
+    }
+
+    // The same, read from what is kept.
+    fn plain_zone(&self, answer: &Answer, point: &PointWatch) -> Option<PlainZone>
+        requires can { CanTake self.now (answer.now ∷ []) }
+        requires read { point.now ≡ slice_index_or self.now.points answer.now.point point.now }
+        ensures { IfSome result (IsOfPoint answer.now self.now) }
+    {
+        let zone = &self.zones[point.zone as usize];
+        if !zone.is_plain() {
+            return None;
+        }
+        let off = is_on(&zone.off, answer.stamp);
+        let test = is_on(&zone.test, answer.stamp);
+        let reset = self.reset.before(answer.stamp);
+        let moved = zone.moved.before(answer.stamp);
+        Some(PlainZone {
+            zone: point.zone,
+            number: zone.number,
+            blocked: off | test,
+            floor: Tick(reset.0.max(moved.0)),
+        })
+    }
+
+    // Takes an alarm of a point in such a zone.
+    #[inline(always)]
+    fn take_plain(&mut self, answer: &Answer, zone: &PlainZone) -> Finding
+        requires can { CanTake self.old (answer.now ∷ []) }
+        requires alarm { is_alarm answer.now.heard ≡ true }
+        requires zone { IsOfPoint answer.now self.old zone.now }
+        ensures taken { TakesAnswers self.old (answer.now ∷ []) self.new }
+        ensures found { FindsNext self.old answer.now result }
+        ensures others { KeepsOthers answer.now.point self.old self.new }
+        ensures known { IsKnown answer.now.stamp.0 self.new zone.now }
+    {
+        let point = self.points.at(answer.point as usize);
+        let manual = point.manual;
+        let judgement = self.judge_in(answer, point, zone);
+        self.note_alarm(answer, &judgement);
+        let told = one_bit(zone.number, judgement.counted);
+        let called = one_bit(zone.number, judgement.counted & manual);
+        Finding {
+            stamp: answer.stamp,
+            point: answer.point,
+            counted: told,
+            confirmed: told,
+            manual: called,
+            released: told,
+            missing: false,
+        }
+    }
+
+    // What the operations done before such an alarm say of it.
+    fn judge_in(&self, answer: &Answer, point: &PointWatch, zone: &PlainZone) -> Judgement
+        requires may { CanObserve self.now answer.now }
+        requires read { point.now ≡ slice_index_or self.now.points answer.now.point point.now }
+        requires alarm { is_alarm answer.now.heard ≡ true }
+        requires zone { IsOfPoint answer.now self.now zone.now }
+        ensures { TellsJudgement self.now answer.now result }
+    {
+        let off = is_on(&point.off, answer.stamp);
+        Judgement {
+            counted: !(off | zone.blocked),
+            floor: zone.floor,
+        }
+    }
+}
