@@ -1,5 +1,5 @@
 -- What is said of a plain zone at a tick stays so while answers are noted, and decides its alarms.
-use Rattle.std.proofs.Common.{◌≡◌, ⊎_elim, ℕ, ◌||◌, ◌&&◌, not, Bool, true, false, List, Some, slice_get, get_or, refl, sym, ◌∙◌, ap, subst}
+use Rattle.std.proofs.Common.{[], set, ◌∷◌, ◌++◌, ◌≡◌, ⊎_elim, ℕ, ◌||◌, ◌&&◌, not, Bool, true, false, List, Some, slice_get, get_or, refl, sym, ◌∙◌, ap, subst}
 use Rattle.tick_units.specs.declared.tick.Tick.{Tick}
 use Rattle.tick_units.specs.declared.last_done.LastDone.{LastDone}
 use Rattle.site_types.specs.declared.site.Site.{Site}
@@ -10,19 +10,24 @@ use Rattle.site_types.specs.declared.heard.Heard.{Heard}
 use Rattle.site_types.specs.declared.heard.Heard.TheVariants.{Alarm, Quiet, Silent}
 use Rattle.coincidence_rules.specs.Counted.{is_alarm, is_silent}
 use Rattle.coincidence.specs.declared.decide.Decide.{Decide}
+use Rattle.coincidence.specs.declared.judgement.Judgement.{Judgement}
 use Rattle.coincidence.specs.declared.plain_zone.PlainZone.{PlainZone}
 use Rattle.coincidence.specs.declared.point_watch.PointWatch.{PointWatch}
 use Rattle.coincidence.specs.declared.zone_watch.ZoneWatch.{ZoneWatch}
 use Rattle.coincidence.specs.Observations.{Judges}
-use Rattle.coincidence.specs.Parts.{switch_at, zone_noted}
-use Rattle.coincidence.specs.PlainZones.{IsOfPoint, IsSaid, KeepsKnown}
+use Rattle.std.proofs.lemmas.List.{set-get_or}
+use Rattle.coincidence_rules.specs.Kept.{is_type_C}
+use Rattle.coincidence.specs.Premises.{MayTake}
+use Rattle.coincidence.specs.Parts.{point_noted, switch_at, zone_noted}
+use Rattle.coincidence.specs.PlainZones.{GoesOn, IsOfPoint, IsSaid, KeepsKnown}
 use Rattle.coincidence.specs.Stands.{DecidesFor, Fits}
 use Rattle.coincidence.proofs.Judged.{counted_is, floor_is}
-use Rattle.coincidence.proofs.Observations.{judges_read}
+use Rattle.coincidence.proofs.Observations.{floor_judged, judges_read}
+use Rattle.coincidence.proofs.TakenAnswer.{stands_noted}
 use Rattle.coincidence_rules.proofs.Lists.{get_set}
 use Rattle.std.specs.Vec.{with_item}
 use Rattle.std.proofs.lemmas.Option.{get_or_from_slice_get}
-use Rattle.coincidence.proofs.Watched.{read_is, watched, zone_read}
+use Rattle.coincidence.proofs.Watched.{fits_next, read_is, watched, zone_read}
 
 -- a zone of which an answer is noted is the same but for its latest answers
 noted_same : (x : ℕ) (reset : LastDone) (zone : PlainZone) (pairs : Bool) (point : ℕ) (stamp : Tick) (watch : ZoneWatch)
@@ -94,3 +99,27 @@ pub not_silent : (heard : Heard) → is_alarm heard ≡ true → is_silent heard
 not_silent Alarm is = refl
 not_silent Quiet is = absurd (cc)
 not_silent Silent is = absurd (cc)
+
+-- of an answer of a detector that counts it is noted that it may make a pair
+pairs_counted : (counted other manual : Bool) → manual ≡ false → counted ≡ (counted && (other || not manual))
+pairs_counted false other manual detector = refl
+pairs_counted true true manual detector = refl
+pairs_counted true false manual detector = sym (ap not detector)
+
+-- an alarm that leaves what is kept of its point is taken by noting it in its zone
+pub gone_on : {site : Site} {kept : Retained} {panel : ℕ} {done : List Done} {taken : List Answer} {decide : Decide} (stands :
+    DecidesFor site kept panel done taken decide) (answer : Answer) → MayTake site panel done taken (answer ∷ []) → (judgement : Judgement)
+    → Judges site kept done answer judgement → (on : GoesOn answer judgement decide) → (zone : PlainZone) → IsOfPoint answer decide zone
+    → (z y : ZoneWatch) → z ≡ get_or decide.zones.items zone.zone z → y ≡ zone_noted judgement.counted answer.point answer.stamp z
+    → DecidesFor site kept panel done (taken ++ answer ∷ []) (record decide { zones = with_item decide.zones zone.zone y })
+gone_on {site} {kept} {panel} {done} {taken} {decide} stands answer may judgement judges on zone of z y read noted =
+    let fits = fits_next site kept panel done taken answer may in
+    let own = of.own on.watch on.read in
+    let here : z ≡ get_or decide.zones.items on.watch.zone z = read ∙ ap (λ k. get_or decide.zones.items k z) own in
+    let same : decide.points ≡ set decide.points answer.point (point_noted answer.heard judgement.counted judgement.floor answer.stamp on.watch) =
+    sym (set-get_or decide.points answer.point on.watch) ∙ ap (set decide.points answer.point) (sym on.read)
+    ∙ ap (set decide.points answer.point) (sym (on.stays answer.stamp)) in
+    subst (λ k. DecidesFor site kept panel done (taken ++ answer ∷ []) (record decide { zones = with_item decide.zones k y })) (sym own)
+    (stands_noted stands answer may on.watch z on.read here judgement.counted judgement.floor decide.points y judgement.counted same
+    (pairs_counted judgement.counted (is_type_C z.rule) on.watch.manual on.detector) noted judges.counted
+    (floor_judged stands answer fits on.watch on.read judgement judges))

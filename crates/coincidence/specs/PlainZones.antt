@@ -1,14 +1,15 @@
 -- What the operations done before a tick say of a zone whose alarms that count confirm and release it by themselves.
-use Rattle.std.specs.Prelude.{◌≡◌, ℕ, None, Option, Some, max, slice_get, slice_index_or, ◌||◌}
+use Rattle.std.specs.Prelude.{false, ◌≡◌, ℕ, None, Option, Some, max, slice_get, slice_index_or, ◌||◌}
 use Rattle.tick_units.specs.declared.last_done.LastDone.{LastDone}
 use Rattle.tick_units.specs.LastTicks.{last_at}
 use Rattle.site_types.specs.declared.answer.Answer.{Answer}
 use Rattle.site_types.specs.declared.rule.Rule.TheVariants.{Plain}
 use Rattle.coincidence.specs.declared.decide.Decide.{Decide}
+use Rattle.coincidence.specs.declared.judgement.Judgement.{Judgement}
 use Rattle.coincidence.specs.declared.plain_zone.PlainZone.{PlainZone}
 use Rattle.coincidence.specs.declared.point_watch.PointWatch.{PointWatch}
 use Rattle.coincidence.specs.declared.zone_watch.ZoneWatch.{ZoneWatch}
-use Rattle.coincidence.specs.Parts.{switch_at}
+use Rattle.coincidence.specs.Parts.{StaysNoted, switch_at}
 
 -- this is what they say of a zone of which this is kept, with the last reset of its panel
 pub record IsSaid (x : ℕ) (reset : LastDone) (zone : PlainZone) (watch : ZoneWatch) : Type 0 where
@@ -36,3 +37,10 @@ KeepsKnown old decide = (x : ℕ) (zone : PlainZone) → IsKnown x old zone → 
 pub record IsOfPoint (answer : Answer) (decide : Decide) (zone : PlainZone) : Type 0 where
   pub known : IsKnown answer.stamp.0 decide zone
   pub own : (watch : PointWatch) → watch ≡ slice_index_or decide.points answer.point watch → zone.zone ≡ watch.zone
+
+-- an answer of a detector of which this is said leaves what is kept of its point as it is
+pub record GoesOn (answer : Answer) (judgement : Judgement) (decide : Decide) : Type 0 where
+  pub watch : PointWatch
+  pub read : watch ≡ slice_index_or decide.points answer.point watch
+  pub stays : StaysNoted answer.heard judgement.counted judgement.floor watch
+  pub detector : watch.manual ≡ false

@@ -15,8 +15,8 @@ use site_types::{Answer, Heard};
 use tick_units::Tick;
 
 impl Decide {
-    ghost use Rattle.coincidence.specs.Changes.{FindsNext, KeepsOthers, TakesAnswers};
-    ghost use Rattle.coincidence.specs.PlainZones.{IsKnown, IsOfPoint, KnowsZone};
+    ghost use Rattle.coincidence.specs.Changes.{FindsNext, KeepsOthers, TakesAnswers, TakesJudged};
+    ghost use Rattle.coincidence.specs.PlainZones.{GoesOn, IsKnown, IsOfPoint, KeepsKnown, KnowsZone};
     ghost use Rattle.coincidence.specs.Queries.{TellsJudgement};
     ghost use Rattle.coincidence.specs.Stands.{CanObserve, CanTake};
 
@@ -90,7 +90,7 @@ impl Decide {
         let point = self.points.at(answer.point as usize);
         let manual = point.manual;
         let judgement = self.judge_in(answer, point, zone);
-        self.note_alarm(answer, &judgement);
+        self.note_in(answer, &judgement, zone);
         let told = one_bit(zone.number, judgement.counted);
         let called = one_bit(zone.number, judgement.counted & manual);
         Finding {
@@ -102,6 +102,46 @@ impl Decide {
             released: told,
             missing: false,
         }
+    }
+
+    // Takes note of such an alarm, of which this is said.
+    #[inline(always)]
+    fn note_in(&mut self, answer: &Answer, judgement: &Judgement, zone: &PlainZone)
+        requires can { CanTake self.old (answer.now ∷ []) }
+        requires zone { IsOfPoint answer.now self.old zone.now }
+        ensures taken { TakesJudged self.old answer.now judgement.now self.new }
+        ensures others { KeepsOthers answer.now.point self.old self.new }
+        ensures known { KeepsKnown self.old self.new }
+    {
+        if self.goes_on(answer, judgement) {
+            return self.note_going_on(answer, judgement, zone);
+        }
+        self.note_alarm(answer, judgement)
+    }
+
+    // Whether it is of a detector, and leaves what is kept of its point as it is.
+    #[inline(always)]
+    fn goes_on(&self, answer: &Answer, judgement: &Judgement) -> bool
+        requires { CanTake self.now (answer.now ∷ []) }
+        ensures { result ≡ true → GoesOn answer.now judgement.now self.now }
+    {
+        let point = self.points.at(answer.point as usize);
+        let stays = point.stays_at(answer.heard, judgement.counted, judgement.floor);
+        stays & !point.manual
+    }
+
+    // Takes note of an alarm of a detector in such a zone which leaves what is kept of its point as it is.
+    #[inline(always)]
+    fn note_going_on(&mut self, answer: &Answer, judgement: &Judgement, zone: &PlainZone)
+        requires can { CanTake self.old (answer.now ∷ []) }
+        requires zone { IsOfPoint answer.now self.old zone.now }
+        requires on { GoesOn answer.now judgement.now self.old }
+        ensures taken { TakesJudged self.old answer.now judgement.now self.new }
+        ensures others { KeepsOthers answer.now.point self.old self.new }
+        ensures known { KeepsKnown self.old self.new }
+    {
+        let watch = &mut self.zones[zone.zone as usize];
+        watch.note(judgement.counted, answer.point, answer.stamp);
     }
 
     // What the operations done before such an alarm say of it.

@@ -34,7 +34,7 @@ one_bit-called-requires c =
 
 pub returns-clause-taken : goal.returns-clause-taken
 returns-clause-taken c site kept panel done taken stands may =
-    c.note_alarm.ensures.taken site kept panel done taken stands may
+    c.note_in.ensures.taken site kept panel done taken stands may
     (c.judge_in-judgement.ensures site kept panel done taken stands (fits_next site kept panel done taken c.args.answer.now may))
 
 pub returns-clause-found : goal.returns-clause-found
@@ -45,11 +45,11 @@ returns-clause-found c site kept panel done taken stands may =
     let judges = c.judge_in-judgement.ensures site kept panel done taken stands fits in
     let s = said_of stands answer fits r c.at-point.ensures c.args.zone.now c.requires.zone in
     let counted = c.judge_in-judgement.result.counted in
-    plain_alarm_is stands answer may (c.note_alarm.ensures.taken site kept panel done taken stands may judges) r s.watch c.at-point.ensures s.read
+    plain_alarm_is stands answer may (c.note_in.ensures.taken site kept panel done taken stands may judges) r s.watch c.at-point.ensures s.read
     c.judge_in-judgement.result judges (not_silent answer.heard c.requires.alarm) s.said.rule s.said.partner c.one_bit-told.result
     c.one_bit-called.result c.one_bit-told.type_inv c.one_bit-called.type_inv
     (subst (λ n. HasBit c.one_bit-told.result n counted) (sym s.said.number) c.one_bit-told.ensures)
     (subst (λ n. HasBit c.one_bit-called.result n (counted && r.manual)) (sym s.said.number) c.one_bit-called.ensures)
 
 pub returns-clause-known : goal.returns-clause-known
-returns-clause-known c = c.note_alarm.ensures.known c.args.answer.now.stamp.0 c.args.zone.now c.requires.zone.known
+returns-clause-known c = c.note_in.ensures.known c.args.answer.now.stamp.0 c.args.zone.now c.requires.zone.known
