@@ -5,6 +5,7 @@ use Rattle.tick_units.specs.declared.last_done.LastDone.{LastDone}
 use Rattle.site_types.specs.declared.site.Site.{Site}
 use Rattle.site_types.specs.declared.answer.Answer.{Answer}
 use Rattle.site_types.specs.declared.retained.Retained.{Retained}
+use Rattle.site_types.specs.Changes.{IsNumber}
 use Rattle.site_types.specs.Done.{Done}
 use Rattle.site_types.specs.declared.heard.Heard.{Heard}
 use Rattle.site_types.specs.declared.heard.Heard.TheVariants.{Alarm, Quiet, Silent}
@@ -27,7 +28,7 @@ use Rattle.coincidence.proofs.TakenAnswer.{stands_noted}
 use Rattle.coincidence_rules.proofs.Lists.{get_set}
 use Rattle.std.specs.Vec.{with_item}
 use Rattle.std.proofs.lemmas.Option.{get_or_from_slice_get}
-use Rattle.coincidence.proofs.Watched.{fits_next, read_is, watched, zone_read}
+use Rattle.coincidence.proofs.Watched.{fits_next, number_fits, read_is, watched, zone_read}
 
 -- a zone of which an answer is noted is the same but for its latest answers
 noted_same : (x : ℕ) (reset : LastDone) (zone : PlainZone) (pairs : Bool) (point : ℕ) (stamp : Tick) (watch : ZoneWatch)
@@ -76,6 +77,12 @@ module _ {site : Site} {kept : Retained} {panel : ℕ} {done : List Done} {taken
         there = zone_there;
         said = of.known z (ap (slice_get decide.zones.items) (of.own r e) ∙ zone_there);
       }
+
+  -- the zone of which it is said has a number
+  pub numbered : (zone : PlainZone) → IsOfPoint answer decide zone → IsNumber zone.number
+  numbered zone of =
+      let s = said_of zone of in
+      subst IsNumber s.said.number (number_fits stands answer.point fits.own r s.watch e s.read)
 
   -- an alarm in such a zone is judged by what is said of it, and by whether its point is disabled
   pub judged_in : (zone : PlainZone) → IsOfPoint answer decide zone → is_alarm answer.heard ≡ true → (off counted : Bool)

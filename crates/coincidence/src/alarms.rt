@@ -31,14 +31,19 @@ impl Decide {
         ensures others { KeepsOthers answer.now.point self.old self.new }
         ensures known { KnowsZone answer.now.stamp.0 self.new known.new }
     {
-        if matches!(answer.heard, Heard::Alarm) {
-            *known = self.zone_of(answer, *known);
-            if let Some(zone) = *known {
-                return self.take_plain(answer, &zone);
+        match answer.heard {
+            Heard::Alarm => {
+                *known = self.zone_of(answer, *known);
+                match *known {
+                    Some(zone) => self.take_plain(answer, &zone),
+                    None => self.take_alarm(answer),
+                }
+            }
+            Heard::Quiet | Heard::Silent => {
+                *known = None;
+                self.take_no_alarm(answer)
             }
         }
-        *known = None;
-        self.take(answer)
     }
 
     // What is known of the zone of an answer's point, if each of its alarms that counts confirms it by itself.

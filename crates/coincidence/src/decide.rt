@@ -127,21 +127,18 @@ impl Decide {
     }
 
     // Takes an answer: what it means, by those taken up to it.
-    #[inline(always)]
     pub(crate) fn take(&mut self, answer: &Answer) -> Finding
         requires { CanTake self.old (answer.now ∷ []) }
         ensures taken { TakesAnswers self.old (answer.now ∷ []) self.new }
         ensures found { FindsNext self.old answer.now result }
         ensures others { KeepsOthers answer.now.point self.old self.new }
     {
-        match answer.heard {
-            Heard::Alarm => self.take_alarm(answer),
-            Heard::Quiet | Heard::Silent => self.take_no_alarm(answer),
-        }
+        let mut known = None;
+        self.take_near(answer, &mut known)
     }
 
     // Takes an answer that is no alarm.
-    fn take_no_alarm(&mut self, answer: &Answer) -> Finding
+    pub(crate) fn take_no_alarm(&mut self, answer: &Answer) -> Finding
         requires may { CanTake self.old (answer.now ∷ []) }
         requires quiet { is_alarm answer.now.heard ≡ false }
         ensures taken { TakesAnswers self.old (answer.now ∷ []) self.new }
@@ -182,35 +179,18 @@ impl Decide {
         }
     }
 
-    // Takes an alarm.
-    #[inline(always)]
-    fn take_alarm(&mut self, answer: &Answer) -> Finding
+    // Takes an alarm, in a zone of any type.
+    pub(crate) fn take_alarm(&mut self, answer: &Answer) -> Finding
         requires { CanTake self.old (answer.now ∷ []) }
         ensures taken { TakesAnswers self.old (answer.now ∷ []) self.new }
-        ensures found { is_silent answer.now.heard ≡ false → FindsNext self.old answer.now result }
+        ensures found { FindsNext self.old answer.now result }
         ensures others { KeepsOthers answer.now.point self.old self.new }
     {
         let point = self.points.at(answer.point as usize);
         let zone = &self.zones[point.zone as usize];
         let judgement = self.judge(answer, point, zone);
-        let plain = zone.is_plain();
-        let number = zone.number;
-        let manual = point.manual;
         self.note_alarm(answer, &judgement);
-        if !plain {
-            return self.coincidence_finding(answer, &judgement);
-        }
-        let told = one_bit(number, judgement.counted);
-        let called = one_bit(number, judgement.counted & manual);
-        Finding {
-            stamp: answer.stamp,
-            point: answer.point,
-            counted: told,
-            confirmed: told,
-            manual: called,
-            released: told,
-            missing: false,
-        }
+        self.coincidence_finding(answer, &judgement)
     }
 
     // What the operations done before an answer say of it.

@@ -1,4 +1,4 @@
-use Rattle.std.proofs.Common.{◌≡◌, ◌&&◌, Bool, true, false, not, refl, sym, ◌∙◌}
+use Rattle.std.proofs.Common.{◌≡◌, ◌&&◌, Bool, true, false, not, refl}
 use Rattle.coincidence.proofs.Watched.{point_small}
 use Rattle.coincidence.proofs.decide.Decide.goes_on.Goals as goal
 

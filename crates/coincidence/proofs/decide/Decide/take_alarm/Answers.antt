@@ -1,7 +1,6 @@
 use Rattle.std.proofs.Common.{◌<◌, refl, sym, subst}
 use Rattle.coincidence.proofs.Observations.{observes_last, fits_last}
-use Rattle.coincidence.proofs.PlainAlarms.{plain_alarm_is}
-use Rattle.coincidence.proofs.Watched.{can_observe, fits_next, number_fits, point_small, zone_small}
+use Rattle.coincidence.proofs.Watched.{can_observe, fits_next, point_small, zone_small}
 use Rattle.coincidence.proofs.decide.Decide.take_alarm.Goals as goal
 
 pub at-point-requires : goal.at-point-requires
@@ -28,40 +27,14 @@ coincidence_finding-requires c =
     observes_last _ answer q (c.note_alarm.ensures.taken q.site q.kept q.panel q.done q.taken q.stands q.may
     (c.judge-judgement.ensures q.site q.kept q.panel q.done q.taken q.stands (fits_next q.site q.kept q.panel q.done q.taken answer q.may)))
 
-pub returns-then-not-plain-clause-taken : goal.returns-then-not-plain-clause-taken
-returns-then-not-plain-clause-taken c site kept panel done taken stands may =
-    c.note_alarm.ensures.taken site kept panel done taken stands may
-    (c.judge-judgement.ensures site kept panel done taken stands (fits_next site kept panel done taken c.args.answer.now may))
-
-pub returns-then-not-plain-clause-found : goal.returns-then-not-plain-clause-found
-returns-then-not-plain-clause-found c heard site kept panel done taken stands may =
-    let answer = c.args.answer.now in
-    let judges = c.judge-judgement.ensures site kept panel done taken stands (fits_next site kept panel done taken answer may) in
-    c.coincidence_finding.ensures site kept panel done taken (c.note_alarm.ensures.taken site kept panel done taken stands may judges)
-    (fits_last site kept panel done taken answer may) judges
-
-pub one_bit-told-requires : goal.one_bit-told-requires
-one_bit-told-requires c =
-    let q = c.requires in
-    number_fits q.stands c.args.answer.now.point (q.may.own 0 c.args.answer.now refl) c.at-point.result.now c.index-zone.result.now
-    c.at-point.ensures c.index-zone.ensures
-
-pub one_bit-called-requires : goal.one_bit-called-requires
-one_bit-called-requires c =
-    let q = c.requires in
-    number_fits q.stands c.args.answer.now.point (q.may.own 0 c.args.answer.now refl) c.at-point.result.now c.index-zone.result.now
-    c.at-point.ensures c.index-zone.ensures
-
 pub returns-clause-taken : goal.returns-clause-taken
 returns-clause-taken c site kept panel done taken stands may =
     c.note_alarm.ensures.taken site kept panel done taken stands may
     (c.judge-judgement.ensures site kept panel done taken stands (fits_next site kept panel done taken c.args.answer.now may))
 
 pub returns-clause-found : goal.returns-clause-found
-returns-clause-found c heard site kept panel done taken stands may =
+returns-clause-found c site kept panel done taken stands may =
     let answer = c.args.answer.now in
     let judges = c.judge-judgement.ensures site kept panel done taken stands (fits_next site kept panel done taken answer may) in
-    let plain = c.is_plain-plain.ensures c.if-not-plain.false in
-    plain_alarm_is stands answer may (c.note_alarm.ensures.taken site kept panel done taken stands may judges) c.at-point.result.now
-    c.index-zone.result.now c.at-point.ensures c.index-zone.ensures c.judge-judgement.result judges heard plain.0 plain.1 c.one_bit-told.result
-    c.one_bit-called.result c.one_bit-told.type_inv c.one_bit-called.type_inv c.one_bit-told.ensures c.one_bit-called.ensures
+    c.coincidence_finding.ensures site kept panel done taken (c.note_alarm.ensures.taken site kept panel done taken stands may judges)
+    (fits_last site kept panel done taken answer may) judges

@@ -1,9 +1,8 @@
 use Rattle.std.proofs.Common.{◌&&◌, refl, sym, subst}
-use Rattle.site_types.specs.Changes.{IsNumber}
 use Rattle.coincidence.proofs.FindingIs.{HasBit}
 use Rattle.coincidence.proofs.PlainAlarms.{plain_alarm_is}
-use Rattle.coincidence.proofs.PlainZones.{not_silent, said_of}
-use Rattle.coincidence.proofs.Watched.{can_observe, fits_next, number_fits, point_small}
+use Rattle.coincidence.proofs.PlainZones.{not_silent, numbered, said_of}
+use Rattle.coincidence.proofs.Watched.{can_observe, fits_next, point_small}
 use Rattle.coincidence.proofs.decide.Decide.take_plain.Goals as goal
 
 pub at-point-requires : goal.at-point-requires
@@ -17,20 +16,14 @@ judge_in-judgement-requires-clause-may c = can_observe c.args.self.now c.args.an
 pub one_bit-told-requires : goal.one_bit-told-requires
 one_bit-told-requires c =
     let q = c.requires.can in
-    let answer = c.args.answer.now in
-    let r = c.at-point.result.now in
-    let fits = fits_next q.site q.kept q.panel q.done q.taken answer q.may in
-    let s = said_of q.stands answer fits r c.at-point.ensures c.args.zone.now c.requires.zone in
-    subst IsNumber s.said.number (number_fits q.stands answer.point fits.own r s.watch c.at-point.ensures s.read)
+    numbered q.stands c.args.answer.now (fits_next q.site q.kept q.panel q.done q.taken c.args.answer.now q.may) c.at-point.result.now
+    c.at-point.ensures c.args.zone.now c.requires.zone
 
 pub one_bit-called-requires : goal.one_bit-called-requires
 one_bit-called-requires c =
     let q = c.requires.can in
-    let answer = c.args.answer.now in
-    let r = c.at-point.result.now in
-    let fits = fits_next q.site q.kept q.panel q.done q.taken answer q.may in
-    let s = said_of q.stands answer fits r c.at-point.ensures c.args.zone.now c.requires.zone in
-    subst IsNumber s.said.number (number_fits q.stands answer.point fits.own r s.watch c.at-point.ensures s.read)
+    numbered q.stands c.args.answer.now (fits_next q.site q.kept q.panel q.done q.taken c.args.answer.now q.may) c.at-point.result.now
+    c.at-point.ensures c.args.zone.now c.requires.zone
 
 pub returns-clause-taken : goal.returns-clause-taken
 returns-clause-taken c site kept panel done taken stands may =
