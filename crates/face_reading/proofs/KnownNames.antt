@@ -1,7 +1,8 @@
 -- What stands at a guessed place is what a search finds: a number of a panel is of one thing, and a name of one entry.
-use Rattle.std.proofs.Common.{◌≡◌, ◌∙◌, ◌<◌, ◌&&◌, ℕ, zero, suc, Bool, true, false, cond, List, [], ◌∷◌, Some, refl, sym, ap, subst, length, get_or, arith}
-use Rattle.std.specs.Prelude.{◌==◌, bytes_eq, option_map, slice_get}
+use Rattle.std.proofs.Common.{◌≡◌, ◌∙◌, ◌<◌, ◌&&◌, ℕ, zero, suc, Bool, true, false, cond, List, [], ◌∷◌, Option, Some, refl, sym, ap, subst, length, get_or, arith}
+use Rattle.std.specs.Prelude.{◌==◌, IfSome, bytes_eq, option_map, slice_get}
 use Rattle.std.specs.Cmp.Lexicographic.{slice_cmp}
+use Rattle.std.specs.Bool.{then_some}
 use Rattle.std.specs.List.{find}
 use Rattle.std.specs.Ordering.{nat_cmp}
 use Rattle.std.specs.declared.cmp.Ordering.TheVariants.{Equal}
@@ -19,6 +20,15 @@ use Rattle.site_types.specs.Things.{thing_named}
 use Rattle.site_types.specs.Valid.{IsUniqueBy, IsValid, output_key, point_key, zone_key}
 use Rattle.site_types.proofs.Finding.{thing_at}
 use Rattle.face_text.specs.Slots.{output_name, point_name, zone_name}
+
+-- what is given only where something is so
+pub when_so : {X : Type 0} (so : Bool) (x : X) (given : Option X) (P : X → Type 0) → given ≡ then_some so x → (so ≡ true → P x) → IfSome given P
+when_so true x given P is holds = subst (λ o. IfSome o P) (sym is) (holds refl)
+when_so false x given P is holds = subst (λ o. IfSome o P) (sym is) tt
+
+-- both of two numbers are the ones that are looked for
+pub both_are : (a b c d : ℕ) → ((a == b) && (c == d)) ≡ true → (a ≡ b) × (c ≡ d)
+both_are a b c d so = let parts = and_parts (a == b) (c == d) so in (eqb-true a b parts.0, eqb-true c d parts.1)
 
 -- ---- what is found in a list whose keys are unique
 

@@ -56,11 +56,8 @@ fn guessed_zone(site: &Site, guesses: &Guesses, panel: u8, number: u8) -> Option
     ensures { IfSome result (λ name. name_of_zone site.now panel number ≡ Some name.bytes) }
 {
     let zone = site.zones.as_slice().get(guesses.zone(panel, number))?;
-    if zone.panel == panel && zone.number == number {
-        Some(zone.name)
-    } else {
-        None
-    }
+    let is_so = (zone.panel == panel) & (zone.number == number);
+    is_so.then_some(zone.name)
 }
 
 fn guessed_point(site: &Site, guesses: &Guesses, panel: u8, line: u8, address: u8) -> Option<Label>
@@ -71,11 +68,8 @@ fn guessed_point(site: &Site, guesses: &Guesses, panel: u8, line: u8, address: u
         .points
         .as_slice()
         .get(guesses.point(panel, line, address))?;
-    if point.panel == panel && point.line == line && point.address == address {
-        Some(point.name)
-    } else {
-        None
-    }
+    let is_so = (point.panel == panel) & (point.line == line) & (point.address == address);
+    is_so.then_some(point.name)
 }
 
 fn guessed_output(site: &Site, guesses: &Guesses, panel: u8, number: u8) -> Option<Label>
@@ -83,11 +77,8 @@ fn guessed_output(site: &Site, guesses: &Guesses, panel: u8, number: u8) -> Opti
     ensures { IfSome result (λ name. name_of_output site.now panel number ≡ Some name.bytes) }
 {
     let output = site.outputs.as_slice().get(guesses.output(panel, number))?;
-    if output.panel == panel && output.number == number {
-        Some(output.name)
-    } else {
-        None
-    }
+    let is_so = (output.panel == panel) & (output.number == number);
+    is_so.then_some(output.name)
 }
 
 /// The point, zone, output or marker with a name, as `Site::find` answers it.
@@ -106,9 +97,5 @@ fn guessed_thing(site: &Site, guesses: &Guesses, name: &[u8]) -> Option<Thing>
     ensures { IfSome result (λ thing. thing_named site.now name.now ≡ Some thing) }
 {
     let named = site.names.as_slice().get(guesses.name(name))?;
-    if is_word(named.name.as_str().as_bytes(), name) {
-        Some(named.thing)
-    } else {
-        None
-    }
+    is_word(named.name.as_str().as_bytes(), name).then_some(named.thing)
 }
