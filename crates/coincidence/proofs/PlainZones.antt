@@ -20,7 +20,7 @@ use Rattle.std.proofs.lemmas.List.{set-get_or}
 use Rattle.coincidence_rules.specs.Kept.{is_type_C}
 use Rattle.coincidence.specs.Premises.{MayTake}
 use Rattle.coincidence.specs.Parts.{point_noted, switch_at, zone_noted}
-use Rattle.coincidence.specs.PlainZones.{GoesOn, IsOfPoint, IsSaid, KeepsKnown}
+use Rattle.coincidence.specs.PlainZones.{RunGoesOn, IsOfPoint, IsSaidAt, KeepsKnown}
 use Rattle.coincidence.specs.Stands.{DecidesFor, Fits}
 use Rattle.coincidence.proofs.Judged.{counted_is, floor_is}
 use Rattle.coincidence.proofs.Observations.{floor_judged, judges_read}
@@ -32,7 +32,7 @@ use Rattle.coincidence.proofs.Watched.{fits_next, number_fits, read_is, watched,
 
 -- a zone of which an answer is noted is the same but for its latest answers
 noted_same : (x : ℕ) (reset : LastDone) (zone : PlainZone) (pairs : Bool) (point : ℕ) (stamp : Tick) (watch : ZoneWatch)
-    → IsSaid x reset zone watch → IsSaid x reset zone (zone_noted pairs point stamp watch)
+    → IsSaidAt x reset zone watch → IsSaidAt x reset zone (zone_noted pairs point stamp watch)
 noted_same x reset zone false point stamp watch h = h
 noted_same x reset zone true point stamp watch h =
     record { rule = h.rule; partner = h.partner; number = h.number; blocked = h.blocked; floor = h.floor }
@@ -44,7 +44,7 @@ pub keeps_known : (decide : Decide) (next : List PointWatch) (place : ℕ) (pair
 keeps_known decide next place pairs point stamp z y there noted x zone h watch at =
     ⊎_elim
     (λ here.
-    subst (IsSaid x decide.reset zone) (sym noted ∙ here.1)
+    subst (IsSaidAt x decide.reset zone) (sym noted ∙ here.1)
     (noted_same x decide.reset zone pairs point stamp z (h z (ap (slice_get decide.zones.items) here.0 ∙ there))))
     (λ other. h watch other.1)
     (get_set decide.zones.items place zone.zone y watch at)
@@ -54,7 +54,7 @@ pub record SaidOf (answer : Answer) (decide : Decide) (r : PointWatch) (zone : P
   pub watch : ZoneWatch
   pub read : watch ≡ get_or decide.zones.items r.zone watch
   pub there : slice_get decide.zones.items r.zone ≡ Some watch
-  pub said : IsSaid answer.stamp.0 decide.reset zone watch
+  pub said : IsSaidAt answer.stamp.0 decide.reset zone watch
 
 module _ {site : Site} {kept : Retained} {panel : ℕ} {done : List Done} {taken : List Answer} {decide : Decide} (stands :
     DecidesFor site kept panel done taken decide) (answer : Answer) (fits : Fits site panel done taken answer) (r : PointWatch)
@@ -116,7 +116,7 @@ pairs_counted true false manual detector = sym (ap not detector)
 -- an alarm that leaves what is kept of its point is taken by noting it in its zone
 pub gone_on : {site : Site} {kept : Retained} {panel : ℕ} {done : List Done} {taken : List Answer} {decide : Decide} (stands :
     DecidesFor site kept panel done taken decide) (answer : Answer) → MayTake site panel done taken (answer ∷ []) → (judgement : Judgement)
-    → Judges site kept done answer judgement → (on : GoesOn answer judgement decide) → (zone : PlainZone) → IsOfPoint answer decide zone
+    → Judges site kept done answer judgement → (on : RunGoesOn answer judgement decide) → (zone : PlainZone) → IsOfPoint answer decide zone
     → (z y : ZoneWatch) → z ≡ get_or decide.zones.items zone.zone z → y ≡ zone_noted judgement.counted answer.point answer.stamp z
     → DecidesFor site kept panel done (taken ++ answer ∷ []) (record decide { zones = with_item decide.zones zone.zone y })
 gone_on {site} {kept} {panel} {done} {taken} {decide} stands answer may judgement judges on zone of z y read noted =

@@ -12,7 +12,7 @@ use Rattle.coincidence.specs.declared.zone_watch.ZoneWatch.{ZoneWatch}
 use Rattle.coincidence.specs.Parts.{StaysNoted, switch_at}
 
 -- this is what they say of a zone of which this is kept, with the last reset of its panel
-pub record IsSaid (x : ℕ) (reset : LastDone) (zone : PlainZone) (watch : ZoneWatch) : Type 0 where
+pub record IsSaidAt (x : ℕ) (reset : LastDone) (zone : PlainZone) (watch : ZoneWatch) : Type 0 where
   pub rule : watch.rule ≡ Plain
   pub partner : watch.partner ≡ None
   pub number : watch.number ≡ zone.number
@@ -22,7 +22,7 @@ pub record IsSaid (x : ℕ) (reset : LastDone) (zone : PlainZone) (watch : ZoneW
 -- what is said so of a zone holds by what is kept
 abbrev pub IsKnown : ℕ → Decide → PlainZone → Type 0
 IsKnown x decide zone =
-    (watch : ZoneWatch) → slice_get decide.zones.items zone.zone ≡ Some watch → IsSaid x decide.reset zone watch
+    (watch : ZoneWatch) → slice_get decide.zones.items zone.zone ≡ Some watch → IsSaidAt x decide.reset zone watch
 
 -- the same, if anything is said
 abbrev pub KnowsZone : ℕ → Decide → Option PlainZone → Type 0
@@ -39,7 +39,7 @@ pub record IsOfPoint (answer : Answer) (decide : Decide) (zone : PlainZone) : Ty
   pub own : (watch : PointWatch) → watch ≡ slice_index_or decide.points answer.point watch → zone.zone ≡ watch.zone
 
 -- an answer of a detector of which this is said leaves what is kept of its point as it is
-pub record GoesOn (answer : Answer) (judgement : Judgement) (decide : Decide) : Type 0 where
+pub record RunGoesOn (answer : Answer) (judgement : Judgement) (decide : Decide) : Type 0 where
   pub watch : PointWatch
   pub read : watch ≡ slice_index_or decide.points answer.point watch
   pub stays : StaysNoted answer.heard judgement.counted judgement.floor watch

@@ -16,7 +16,7 @@ use tick_units::Tick;
 
 impl Decide {
     ghost use Rattle.coincidence.specs.Changes.{FindsNext, KeepsOthers, TakesAnswers, TakesJudged};
-    ghost use Rattle.coincidence.specs.PlainZones.{GoesOn, IsKnown, IsOfPoint, KeepsKnown, KnowsZone};
+    ghost use Rattle.coincidence.specs.PlainZones.{RunGoesOn, IsKnown, IsOfPoint, KeepsKnown, KnowsZone};
     ghost use Rattle.coincidence.specs.Queries.{TellsJudgement};
     ghost use Rattle.coincidence.specs.Stands.{CanObserve, CanTake};
 
@@ -128,7 +128,7 @@ impl Decide {
     #[inline(always)]
     fn goes_on(&self, answer: &Answer, judgement: &Judgement) -> bool
         requires { CanTake self.now (answer.now ∷ []) }
-        ensures { result ≡ true → GoesOn answer.now judgement.now self.now }
+        ensures { result ≡ true → RunGoesOn answer.now judgement.now self.now }
     {
         let point = self.points.at(answer.point as usize);
         let stays = point.stays_at(answer.heard, judgement.counted, judgement.floor);
@@ -140,7 +140,7 @@ impl Decide {
     fn note_going_on(&mut self, answer: &Answer, judgement: &Judgement, zone: &PlainZone)
         requires can { CanTake self.old (answer.now ∷ []) }
         requires zone { IsOfPoint answer.now self.old zone.now }
-        requires on { GoesOn answer.now judgement.now self.old }
+        requires on { RunGoesOn answer.now judgement.now self.old }
         ensures taken { TakesJudged self.old answer.now judgement.now self.new }
         ensures others { KeepsOthers answer.now.point self.old self.new }
         ensures known { KeepsKnown self.old self.new }

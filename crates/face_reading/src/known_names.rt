@@ -22,19 +22,13 @@ pub fn known_name(
     requires { IsValid site.now }
     ensures { option_map (λ label. label.bytes) result ≡ name_in site.now panel group number }
 {
-    match guessed_name(site, guesses, panel, group, number) {
+    match guessed(site, guesses, panel, group, number) {
         Some(name) => Some(name),
         None => name_of(site, panel, group, number),
     }
 }
 
-fn guessed_name(
-    site: &Site,
-    guesses: &Guesses,
-    panel: u8,
-    group: Group,
-    number: u8,
-) -> Option<Label>
+fn guessed(site: &Site, guesses: &Guesses, panel: u8, group: Group, number: u8) -> Option<Label>
     requires { IsValid site.now }
     ensures { IfSome result (λ name. name_in site.now panel group number ≡ Some name.bytes) }
 {

@@ -1,7 +1,7 @@
 use Rattle.std.proofs.Common.{◌<◌, ◌∙◌, ◌||◌, refl, sym, ap, max, subst}
 use Rattle.tick_units.specs.LastTicks.{last_at}
 use Rattle.coincidence.specs.Parts.{switch_at}
-use Rattle.coincidence.specs.PlainZones.{IsSaid}
+use Rattle.coincidence.specs.PlainZones.{IsSaidAt}
 use Rattle.coincidence.proofs.PlainZones.{point_same}
 use Rattle.coincidence.proofs.Watched.{fits_next, read_is, test_since, zone_off_since, zone_small}
 use Rattle.coincidence.proofs.decide.Decide.plain_zone.Goals as goal
@@ -34,7 +34,7 @@ returns c =
     let plain = c.is_plain.ensures c.if-not-is_plain.false in
     record {
       known = λ watch at.
-          subst (IsSaid x c.args.self.now.reset _) (read_is c.args.self.now.zones.items r.zone z watch c.index-zone.ensures at)
+          subst (IsSaidAt x c.args.self.now.reset _) (read_is c.args.self.now.zones.items r.zone z watch c.index-zone.ensures at)
           (record {
             rule = plain.0;
             partner = plain.1;
