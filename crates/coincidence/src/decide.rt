@@ -133,8 +133,10 @@ impl Decide {
         ensures found { FindsNext self.old answer.now result }
         ensures others { KeepsOthers answer.now.point self.old self.new }
     {
-        let mut known = None;
-        self.take_near(answer, &mut known)
+        match answer.heard {
+            Heard::Alarm => self.take_alarm(answer),
+            Heard::Quiet | Heard::Silent => self.take_no_alarm(answer),
+        }
     }
 
     // Takes an answer that is no alarm.
