@@ -1,5 +1,5 @@
 -- Words of a group taken one by one, each the newest of three.
-use Rattle.std.proofs.Common.{◌≡◌, ◌≢◌, ◌∙◌, ℕ, ◌+◌, ◌≤◌, ◌==◌, ◌&&◌, nat_le, nat_lt, true, false, if◌then◌else◌, inl, inr}
+use Rattle.std.proofs.Common.{◌≡◌, ◌≢◌, ◌∙◌, ℕ, ◌+◌, ◌≤◌, ◌==◌, ◌&&◌, ◌||◌, Bool, nat_le, nat_lt, true, false, if◌then◌else◌, inl, inr}
 use Rattle.std.proofs.Common.{refl, sym, ap, arith}
 use Rattle.std.proofs.lemmas.Bool.{and_left, and_right, cases_eq, eq-eqb, le-leb, le-ltb, lt-ltb, ne_eqb}
 use Rattle.site_types.specs.declared.word.Word.{Word}
@@ -12,6 +12,16 @@ has_zones_then later earlier = record { alarm = later.alarm ∙ earlier.alarm; f
 
 pub has_zones_equal : {word other : Word} → word ≡ other → HasZonesOf word other
 has_zones_equal same = record { alarm = ap (λ (w : Word). w.alarm) same; first = ap (λ (w : Word). w.first) same }
+
+pub not_both : (b : Bool) → b ≡ false → b ≡ true → ⊥
+not_both false down up = absurd cc
+not_both true down up = absurd cc
+
+-- a flag stays down where nothing raises it
+pub stays_down : (flag raises : Bool) → flag ≡ false → (raises ≡ true → ⊥) → (flag || raises) ≡ false
+stays_down false false down never = refl
+stays_down false true down never = absurd (never refl)
+stays_down true raises down never = absurd cc
 
 -- what was kept at the start, what is kept before the words of a panel are taken and what after it
 module _ (panels at left right first of : ℕ) (start before after : ℕ → ℕ → Word) (word : Word) (begun : first ≤ of)
@@ -75,14 +85,34 @@ module _ (panels at left right first of : ℕ) (start before after : ℕ → ℕ
       ]
     ]
 
+  here : InRing panels at → InRing panels of → after at of ≡ word
+  here hat hof =
+      let t1 : (at == at) ≡ true = eq-eqb at at refl in
+      let t2 : (of == of) ≡ true = eq-eqb of of refl in
+      rw (t1, t2) at (put at of hat hof)
+
   -- the zones of what is kept of another panel are as at the start if they were before, and are in the word that is taken
-  pub same_zones : (o : ℕ) → InRing panels at → InRing panels o → HasZonesOf word (before at of) → HasZonesOf (before at o) (start at o)
-      → HasZonesOf (after at o) (start at o)
+  pub same_zones : (o : ℕ) → InRing panels at → InRing panels o → (o ≡ of → HasZonesOf word (before at of))
+      → HasZonesOf (before at o) (start at o) → HasZonesOf (after at o) (start at o)
   same_zones o hat ho by_word were = elim (cases_eq o of) [
     | inr apart ↦ has_zones_then (has_zones_equal (elsewhere at o hat ho apart)) were
     | inl same ↦
         (let t1 : (at == at) ≡ true = eq-eqb at at refl in
         let t2 : (o == of) ≡ true = eq-eqb o of same in
         has_zones_then (has_zones_equal (rw (t1, t2) at (put at o hat ho)))
-        (has_zones_then by_word (has_zones_then (has_zones_equal (ap (before at) (sym same))) were)))
+        (has_zones_then (by_word same) (has_zones_then (has_zones_equal (ap (before at) (sym same))) were)))
   ]
+
+  -- where they are as at the start, they were before
+  pub were_same : (o : ℕ) → InRing panels at → InRing panels o → HasZonesOf (after at o) (start at o) → HasZonesOf (before at o) (start at o)
+  were_same o hat ho are = elim (cases_eq o of) [
+    | inr apart ↦ has_zones_then (has_zones_equal (sym (elsewhere at o hat ho apart))) are
+    | inl same ↦ has_zones_equal (untaken at o hat ho (omega (arith, same)))
+  ]
+
+  -- and so are those of the word that is taken
+  pub word_same : InRing panels at → InRing panels of → HasZonesOf (after at of) (start at of) → HasZonesOf word (before at of)
+  word_same hat hof are =
+      let late : of ≤ of = omega arith in
+      has_zones_then (has_zones_equal (sym (here hat hof)))
+      (has_zones_then are (has_zones_equal (sym (untaken at of hat hof late))))

@@ -1,5 +1,5 @@
-ghost use Rattle.std.specs.Prelude.{◌≡◌, ◌+◌, ◌≤◌, ◌<◌, ◌==◌, ◌&&◌, [], ◌∷◌, List, ℕ, length, nat_le, slice_index_or};
-ghost use Rattle.std.specs.Prelude.{false, true, if◌then◌else◌};
+ghost use Rattle.std.specs.Prelude.{◌≡◌, ◌≢◌, ◌↔◌, ◌+◌, ◌≤◌, ◌<◌, ◌==◌, ◌&&◌, [], ◌∷◌, List, ℕ, length, nat_le};
+ghost use Rattle.std.specs.Prelude.{false, true, if◌then◌else◌, slice_index_or};
 ghost use Rattle.site_types.specs.Bits.{mask_of};
 ghost use Rattle.panel_links.specs.Words.{Call, Linked, Took, IsHeard, IsNewest, OwnStampsRise};
 ghost use Rattle.site_types.specs.Words.{empty_word};
@@ -74,6 +74,7 @@ impl Ring {
             → StandsFor panels (Took now.0 panel own ∷ calls) self.new }
         ensures panels { self.new.panels ≡ self.old.panels }
         ensures zones { result ≡ false → KeepsZones self.old panel self.new }
+        ensures same { KeepsZones self.old panel self.new → result ≡ false }
     {
         self.keep(panel, panel, own);
         self.renew_oldest(panel, now);
@@ -249,23 +250,32 @@ impl Ring {
         !has_bit_8(self.down, link - 1)
     }
 
-    // Takes the newest of what three panels keep of those of the tick's group, and tells whether zones are others.
+    // Takes the newest of what three panels keep of those of the tick's group, and tells whether others' zones changed.
     #[inline(never)]
     fn take_newest(&mut self, at: u8, left: u8, right: u8, now: Tick) -> bool
         requires at { HasPanel self.old at }
         requires left { HasPanel self.old left }
         requires right { HasPanel self.old right }
         ensures words { TakesNewest self.old at left right now.0 self.new }
-        ensures zones { result ≡ false → KeepsZones self.old at self.new }
+        ensures zones { result ≡ false ↔ KeepsZones self.old at self.new }
         ensures panels { self.new.panels ≡ self.old.panels }
         ensures links { self.new.down ≡ self.old.down }
     {
         let first = 4 * self.group(now) + 1;
         let mut differ = false;
         for of in first..first + 4 {
-            differ |= self.take_newer(at, left, right, of);
+            if self.take_newer(at, left, right, of) {
+                differ |= self.is_another(at, of);
+            }
         }
         differ
+    }
+
+    // Whether a number from 1 is that of another panel of the ring than one.
+    fn is_another(&self, at: u8, of: u8) -> bool
+        ensures { result ≡ true ↔ (of ≤ self.now.panels) × (of ≢ at) }
+    {
+        of != at && of <= self.panels
     }
 
     // Takes the newest of what three panels keep of one, and tells whether its zones are others.
@@ -276,7 +286,7 @@ impl Ring {
         requires from { (1 ≤ of) × (of ≤ 8) }
         ensures words { TakesNewestOf self.old at left right of self.new }
         ensures zones { result ≡ false
-            → HasZonesOf (newest_of self.old at left right of) (kept_in self.old at of) }
+            ↔ HasZonesOf (newest_of self.old at left right of) (kept_in self.old at of) }
         ensures panels { self.new.panels ≡ self.old.panels }
         ensures links { self.new.down ≡ self.old.down }
     {
@@ -296,7 +306,7 @@ impl Ring {
         requires from { (1 ≤ of) × (of ≤ 8) }
         ensures words { KeepsNewest self.old at of (kept_in self.old source of) self.new }
         ensures zones { result ≡ false
-            → HasZonesOf (newest (kept_in self.old at of) (kept_in self.old source of))
+            ↔ HasZonesOf (newest (kept_in self.old at of) (kept_in self.old source of))
             (kept_in self.old at of) }
         ensures panels { self.new.panels ≡ self.old.panels }
         ensures links { self.new.down ≡ self.old.down }
@@ -383,7 +393,7 @@ fn newer(kept: Word, other: Word) -> Word
 }
 
 fn has_other_zones(word: &Word, kept: &Word) -> bool
-    ensures { result ≡ false → HasZonesOf word.now kept.now }
+    ensures { result ≡ false ↔ HasZonesOf word.now kept.now }
 {
     word.alarm != kept.alarm || word.first != kept.first
 }

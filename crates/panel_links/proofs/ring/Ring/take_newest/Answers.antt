@@ -1,10 +1,12 @@
-use Rattle.std.proofs.Common.{◌≡◌, ◌∙◌, ◌+◌, ◌*◌, ◌≤◌, ◌==◌, ◌&&◌, ℕ, if◌then◌else◌, refl, arith}
+use Rattle.std.proofs.Common.{◌≡◌, ◌∙◌, ◌+◌, ◌*◌, ◌≤◌, ◌==◌, ◌&&◌, ℕ, false, if◌then◌else◌, refl, sym, arith}
 use Rattle.std.proofs.lemmas.Bool.{or_parts}
+use Rattle.panel_links.specs.Changes.{KeepsZones}
 use Rattle.panel_links.specs.Kept.{newest}
 use Rattle.panel_links.specs.Stands.{kept_in}
-use Rattle.panel_links.proofs.Newest.{one_more, same_zones}
+use Rattle.panel_links.proofs.Newest.{not_both, one_more, same_zones, stays_down, were_same, word_same}
 use Rattle.panel_links.proofs.Turns.{InRing}
 use Rattle.panel_links.proofs.ring.Ring.take_newest.Goals as goal
+use Rattle.panel_links.proofs.ring.Ring.take_newest.Goals.{then-take_newer, else-take_newer}
 
 pub loop-of-preserved : goal.loop-of-preserved
 loop-of-preserved c =
@@ -18,17 +20,38 @@ loop-of-preserved c =
     let same = was.panels in
     let start = kept_in c.args.self.now in
     let before = kept_in c.loop-of.self in
-    let after = kept_in c.take_newer-differ.new.self in
+    let after = kept_in c.take_newer.new.self in
     let word = newest (newest (before at of) (before left of)) (before right of) in
     let begun : first ≤ of = omega arith in
     let put : (a o : ℕ) → InRing panels a → InRing panels o → after a o ≡ (if (a == at) && (o == of) then word else before a o) =
-    λ a o ha ho. c.take_newer-differ.ensures.words a o (ha.0, omega (arith, ha.1, same)) (ho.0, omega (arith, ho.1, same)) in
+    λ a o ha ho. c.take_newer.ensures.words a o (ha.0, omega (arith, ha.1, same)) (ho.0, omega (arith, ho.1, same)) in
+    let here = c.requires.at in
+    let keeps = KeepsZones c.args.self.now at c.take_newer.new.self in
+    let now = c.take_newer.ensures.panels ∙ was.panels in
+    let known = same_zones panels at left right first of start before after word begun was.words put in
+    let earlier : keeps → c.loop-of.differ ≡ false =
+    λ are. was.same (λ p hp apart. were_same panels at left right first of start before after word begun was.words put p here hp (are p hp apart)) in
     record {
-      panels = c.take_newer-differ.ensures.panels ∙ was.panels;
-      links = c.take_newer-differ.ensures.links ∙ was.links;
-      words = one_more panels at left right first of start before after word begun was.words put c.requires.at c.requires.left c.requires.right refl;
-      zones = λ none p hp apart. (
-          let parts = or_parts c.loop-of.differ c.take_newer-differ.result none in
-          same_zones panels at left right first of start before after word begun was.words put p c.requires.at hp
-          (c.take_newer-differ.ensures.zones parts.1) (was.zones parts.0 p hp apart));
+      panels = now;
+      links = c.take_newer.ensures.links ∙ was.links;
+      words = one_more panels at left right first of start before after word begun was.words put here c.requires.left c.requires.right refl;
+      zones = elim c.if-take_newer.branch [
+        | then-take_newer w ↦ λ none p hp apart. (
+            let parts = or_parts c.loop-of.differ w.is_another-differ.result (sym w.differ-is ∙ none) in
+            known p here hp
+            (λ same. absurd (not_both w.is_another-differ.result parts.1
+            (w.is_another-differ.ensures.1 (omega (arith, hp.1, now, same), λ e. apart (same ∙ e)))))
+            (was.zones parts.0 p hp apart))
+        | else-take_newer w ↦ λ none p hp apart.
+            known p here hp (λ same. c.take_newer.ensures.zones.0 w.if-take_newer.false) (was.zones (sym w.differ-is ∙ none) p hp apart)
+      ];
+      same = elim c.if-take_newer.branch [
+        | then-take_newer w ↦ λ are.
+            w.differ-is ∙ stays_down c.loop-of.differ w.is_another-differ.result (earlier are) (λ raises. (
+            let other = w.is_another-differ.ensures.0 raises in
+            let there : InRing panels of = (omega (arith, begun), omega (arith, other.0, now)) in
+            not_both c.take_newer.result (c.take_newer.ensures.zones.1
+            (word_same panels at left right first of start before after word begun was.words put here there (are of there other.1))) w.if-take_newer.true))
+        | else-take_newer w ↦ λ are. w.differ-is ∙ earlier are
+      ];
     }

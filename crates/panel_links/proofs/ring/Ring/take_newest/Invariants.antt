@@ -14,4 +14,5 @@ invariant-loop-of l = record {
       then newest (newest (kept_in l.fn.self a o) (kept_in l.fn.self l.left o)) (kept_in l.fn.self l.right o)
       else kept_in l.fn.self a o);
   zones : l.differ ≡ false → KeepsZones l.fn.self l.at l.self;
+  same : KeepsZones l.fn.self l.at l.self → l.differ ≡ false;
 }
