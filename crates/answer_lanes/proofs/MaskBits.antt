@@ -45,6 +45,18 @@ matches false false quiet other is = inl (refl, by quiet other is)
     by false true e = absurd (cc)
     by false false e = absurd (cc)
 
+pub matches_back : (alarm silent quiet other : Bool) → IsMatching (heard_by alarm silent) quiet other
+    → (((quiet && not silent) || (other && silent)) && not alarm) ≡ true
+matches_back true silent quiet other (inl is) = absurd (let no = is.0 in cc)
+matches_back true silent quiet other (inr is) = absurd (let no = is.0 in cc)
+matches_back false true quiet other (inl is) = absurd (let no = is.0 in cc)
+matches_back false true true true (inr is) = refl
+matches_back false true false true (inr is) = refl
+matches_back false true quiet false (inr is) = absurd (let no = is.1 in cc)
+matches_back false false true other (inl is) = refl
+matches_back false false false other (inl is) = absurd (let no = is.1 in cc)
+matches_back false false quiet other (inr is) = absurd (let no = is.0 in cc)
+
 -- ---- so many bits of a mask, from one on
 
 and_false : (b : Bool) → (b && false) ≡ false

@@ -33,7 +33,7 @@ impl AnswerGroup {
     }
 
     /// Which of eight answers, from the one at a place on, are quiet where the first bits say so, or silent where the
-    /// others do.
+    /// others do: just those.
     pub fn matching_bits(&self, from: u8, quiet: u8, silent: u8) -> u8
         ensures { AreMatching self.now from quiet silent result }
     {

@@ -9,6 +9,8 @@ use crate::run::Run;
 use coincidence_rules::Finding;
 
 impl Run<FindingGroup> {
+    ghost use Rattle.answer_lanes.specs.Groups.{CannotTake};
+
     /// A run that holds nothing yet.
     pub fn none() -> Run<FindingGroup>
         ensures items { items_of finding_at result ≡ [] }
@@ -24,6 +26,7 @@ impl Run<FindingGroup> {
         ensures put { result ≡ true
             → items_of finding_at self.new ≡ items_of finding_at self.old ++ finding.now ∷ [] }
         ensures kept { result ≡ false → self.new ≡ self.old }
+        ensures refused { result ≡ false → CannotTake finding.now self.old }
         ensures short { HasShortCount self.new }
     {
         if self.count == 0 {

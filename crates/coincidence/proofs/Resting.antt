@@ -116,7 +116,7 @@ left_in_run decide run from resting missing bits is_from within rests misses mat
     let point : (answer_at run.first place).point ≡ from + k = (let here : min (run.first.point + place) 65535 ≡ from + k = omega (arith, is_from, in_run, places, points) in here) in
     left_if decide (answer_at run.first place) (has_bit resting k) (has_bit missing k)
     (λ watch there. rests k watch eight (ap (slice_get decide.points) (sym point) ∙ there))
-    (λ watch there. misses k watch eight (ap (slice_get decide.points) (sym point) ∙ there)) (match k eight set_bit)
+    (λ watch there. misses k watch eight (ap (slice_get decide.points) (sym point) ∙ there)) (match.set k eight set_bit)
 
 -- the others may change them
 pub changing_in_run : (decide : Decide) (run : Run AnswerGroup) (from resting missing still front changing : ℕ) → from ≡ run.first.point + run.taken

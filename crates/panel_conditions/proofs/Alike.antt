@@ -1,15 +1,15 @@
--- What compares as equal is equal: fault sets and what the buzzer sounds.
+-- What compares as equal is equal, and the other way round: fault sets and what the buzzer sounds.
 use denote.Enum.Bare.{sameb}
-use Rattle.std.proofs.Common.{◌≡◌, ◌∙◌, ◌&&◌, ◌==◌, ℕ, Bool, true, nat_eq, refl, sym}
+use Rattle.std.proofs.Common.{◌≡◌, ◌∙◌, ◌&&◌, ◌==◌, ℕ, Bool, true, nat_eq, refl, sym, ap}
 use Rattle.std.specs.Cmp.Lexicographic.{pointwise}
-use Rattle.std.proofs.lemmas.Bool.{eqb-true}
+use Rattle.std.proofs.lemmas.Bool.{eq-eqb, eqb-true}
 use Rattle.site_types.specs.contracts.buzzer.Buzzer.{the_type}
 use Rattle.site_types.specs.declared.buzzer.Buzzer.{Buzzer}
 use Rattle.site_types.specs.declared.buzzer.Buzzer.TheVariants.{Off, Fault, Fire}
 use Rattle.site_types.specs.declared.fault_set.FaultSet.{FaultSet}
 use Rattle.site_types.specs.declared.point_set.PointSet.{PointSet}
-use Rattle.coincidence_rules.proofs.Lists.{and_both}
-use Rattle.panel_conditions.proofs.Unchanged.{same_sets}
+use Rattle.coincidence_rules.proofs.Lists.{and_both, both_and}
+use Rattle.panel_conditions.proofs.Unchanged.{same_sets, sets_same}
 
 pub same_number : (a b : ℕ) (told : Bool) → told ≡ (a == b) → told ≡ true → a ≡ b
 same_number a b told is e = eqb-true a b (sym is ∙ e)
@@ -59,3 +59,13 @@ same_faults a b e =
     faults_from a b (same_sets a.missing b.missing _ refl missing.0) (eqb-true a.broken b.broken broken.0) (eqb-true a.shorted b.shorted shorted.0)
     (eqb-true a.supply b.supply supply.0) (eqb-true a.silent b.silent silent.0) (eqb-true a.links b.links links.0)
     (eqb-true a.unconfirmed b.unconfirmed links.1)
+
+-- a fault set compares as equal to itself
+pub faults_same : (a b : FaultSet) → a ≡ b → all_same a b ≡ true
+faults_same a b e =
+    both_and _ _ (sets_same a.missing b.missing (ap (λ f. f.missing) e))
+    (both_and _ _ (eq-eqb a.broken b.broken (ap (λ f. f.broken) e))
+    (both_and _ _ (eq-eqb a.shorted b.shorted (ap (λ f. f.shorted) e))
+    (both_and _ _ (eq-eqb a.supply b.supply (ap (λ f. f.supply) e))
+    (both_and _ _ (eq-eqb a.silent b.silent (ap (λ f. f.silent) e))
+    (both_and _ _ (eq-eqb a.links b.links (ap (λ f. f.links) e)) (eq-eqb a.unconfirmed b.unconfirmed (ap (λ f. f.unconfirmed) e)))))))

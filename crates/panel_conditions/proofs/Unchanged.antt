@@ -38,6 +38,10 @@ same_sets a b r is holds =
     ap (λ (l : List (List ℕ)). record { loops = l })
     ((slice_eq-Decides (λ xs ys. slice_eq-Decides Decides-eqb xs ys (pointwise nat_eq xs ys) refl) a.loops b.loops r is).0 holds)
 
+pub sets_same : (a b : PointSet) → a ≡ b → pointwise (pointwise nat_eq) a.loops b.loops ≡ true
+sets_same a b e =
+    (slice_eq-Decides (λ xs ys. slice_eq-Decides Decides-eqb xs ys (pointwise nat_eq xs ys) refl) a.loops b.loops _ refl).1 (ap (λ s. s.loops) e)
+
 -- ---- nothing has more than itself
 
 and_not : (b : Bool) → (b && not b) ≡ false

@@ -73,6 +73,7 @@ impl Hold {
         ensures stands { MakesTurn self.old (turn_from now.0 findings.old outside.now) self.new }
         ensures lane { findings.new ≡ after_turn findings.old }
         ensures same { result ≡ true → ShowsAgain self.old.shown self.new.shown }
+        ensures must { ShowsAgain self.old.shown self.new.shown → result ≡ true }
     {
         self.take_turn(findings);
         self.show(now, outside)
@@ -182,6 +183,7 @@ impl Hold {
         ensures settled { (tick : ℕ) → Settled tick self.old.zones → tick ≤ now.0
             → Settled now.0 self.new.zones }
         ensures same { result ≡ true → ShowsAgain self.old.shown self.new.shown }
+        ensures must { ShowsAgain self.old.shown self.new.shown → result ≡ true }
     {
         self.zones.draw(now);
         if self.is_unchanged(outside) {
@@ -208,6 +210,7 @@ impl Hold {
         ensures points { self.new.points ≡ record self.old.points { changed = false } }
         ensures rest { (self.new.zones ≡ self.old.zones) × (self.new.muted ≡ self.old.muted) }
         ensures same { result ≡ true → ShowsAgain self.old.shown self.new.shown }
+        ensures must { ShowsAgain self.old.shown self.new.shown → result ≡ true }
     {
         let faults = outside.with_missing(self.points.showing(now));
         let word = self.zones.signs().word(now, has_fault(&faults));

@@ -51,7 +51,8 @@ impl Shown {
 
     /// Whether zones in alarm and in first state, faults and buzzer are shown as before.
     pub fn shows_again(&self, before: &Shown) -> bool
-        ensures { result ≡ true → ShowsAgain before.now self.now }
+        ensures same { result ≡ true → ShowsAgain before.now self.now }
+        ensures must { ShowsAgain before.now self.now → result ≡ true }
     {
         self.word.alarm == before.word.alarm
             && self.word.first == before.word.first

@@ -131,6 +131,7 @@ impl Parts {
         requires { MayTurn HoldTask now.0 self.old }
         ensures turn { MakesHoldTurn self.old now.0 silent links self.new }
         ensures same { result ≡ true → ShowsAgain self.old.hold.shown self.new.hold.shown }
+        ensures must { ShowsAgain self.old.hold.shown self.new.hold.shown → result ≡ true }
     {
         let outside = self.outside(silent, links);
         self.hold
