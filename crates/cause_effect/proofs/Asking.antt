@@ -1,8 +1,11 @@
 -- What is asked for of a panel's own outputs is what is asked for of all.
-use Rattle.std.proofs.Common.{◌≡◌, ◌∙◌, ◌<◌, ◌≤◌, ◌+◌, ◌^◌, ◌==◌, ◌||◌, ℕ, Bool, true, false, List, [], ◌∷◌, Some, suc, length, take, ap, sym, refl, inl, inr, arith}
+use Rattle.std.proofs.Common.{◌≡◌, ◌∙◌, ◌<◌, ◌≤◌, ◌+◌, ◌^◌, ◌/◌, ◌%◌, ◌==◌, ◌&&◌, ◌||◌, nat_eq, ℕ, Bool, true, false, List, [], ◌∷◌, Some, suc, length, take, ap, sym, refl, inl, inr, arith, lit<}
+use Rattle.std.specs.Cmp.Lexicographic.{pointwise}
 use Rattle.std.specs.List.{list_any}
 use Rattle.std.specs.Prelude.{slice_get, slice_index_or}
 use Rattle.std.proofs.lemmas.Bool.{cases_lt, ne_eqb}
+use Rattle.std.proofs.lemmas.Bool.Decides.{Decides-eqb}
+use Rattle.std.proofs.lemmas.Slice.Eq.{slice_eq-Decides}
 use Rattle.std.proofs.lemmas.List.{get_or_past, take_all}
 use Rattle.site_types.specs.declared.output.Output.{Output}
 use Rattle.site_types.specs.declared.requests.Requests.{Requests}
@@ -10,7 +13,9 @@ use Rattle.site_types.specs.declared.site.Site.{Site}
 use Rattle.site_types.specs.Bits.{has_bit}
 use Rattle.site_types.specs.Valid.{IsValid}
 use Rattle.site_types.proofs.ValidSites.{output_numbers}
-use Rattle.site_types.proofs.Masks.{mask_from_bits, mask_same}
+use Rattle.site_types.proofs.Masks.{has_bit-zero, mask_from_bits, mask_same}
+use Rattle.marker_table.specs.declared.values.Values.{Values}
+use Rattle.marker_table.specs.Equations.{values_of}
 use Rattle.cause_effect.specs.Requests.{asked, asked_among, asks, asks_among, outputs_of}
 
 among_one : (values : ℕ → Bool) (number panel : ℕ) (output : Output) (own : Bool) (rest : List Output) (more : Bool)
@@ -37,6 +42,28 @@ pub asked_known : (values : ℕ → Bool) (outputs : List Output) (mask count : 
 asked_known values outputs mask count fits whole known =
     mask_from_bits 32 mask (λ bit. list_any (asks_among values (bit + 1)) outputs) fits
     (λ bit small. known bit small ∙ ap (list_any (asks_among values (bit + 1))) (take_all count outputs whole))
+
+-- what `==` of values says
+pub same_words : (values none : Values) (marker : ℕ) → true ≡ pointwise nat_eq values.words none.words → values_of values marker ≡ values_of none marker
+same_words values none marker h =
+    ap (λ words. has_bit (slice_index_or words (marker / 32) 0) (marker % 32)) ((slice_eq-Decides Decides-eqb values.words none.words _ refl).0 (sym h))
+
+not_asked : (own value more : Bool) → value ≡ false → more ≡ false → ((own && value) || more) ≡ false
+not_asked true value more none others = rw (none, others) refl
+not_asked false value more none others = others
+
+-- where no marker is true no output is asked for
+none_asked : (values : ℕ → Bool) → ((marker : ℕ) → values marker ≡ false) → (number : ℕ) (outputs : List Output)
+    → list_any (asks_among values number) outputs ≡ false
+none_asked values none number [] = refl
+none_asked values none number (output ∷ rest) =
+    not_asked (output.number == number) (values output.marker) (list_any (asks_among values number) rest) (none output.marker)
+    (none_asked values none number rest)
+
+pub no_marker_asks : (values : ℕ → Bool) (outputs : List Output) → ((marker : ℕ) → values marker ≡ false) → 0 ≡ asked_among values outputs
+no_marker_asks values outputs none =
+    asked_known values outputs 0 (length outputs) (lit< tt) (omega (arith))
+    (λ bit small. has_bit-zero bit ∙ sym (none_asked values none (bit + 1) (take (length outputs) outputs)))
 
 -- outside the panels of a site there is no output
 pub none_beyond : (panel : ℕ) (outputs : List Output) → ((k : ℕ) (output : Output) → slice_get outputs k ≡ Some output → output.panel ≡ panel → ⊥)

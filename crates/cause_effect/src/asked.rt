@@ -13,16 +13,24 @@ pub(crate) fn requests_among(outputs: &[Output], normal: &Values, manual: &Value
     ensures asked { result.asked ≡ asked_among (values_of normal.now) outputs.now }
     ensures manual { result.manual ≡ asked_among (values_of manual.now) outputs.now }
 {
-    let mut asked = 0;
-    let mut by_hand = 0;
-    for output in outputs {
-        asked = with_output(asked, output, normal);
-        by_hand = with_output(by_hand, output, manual);
-    }
     Requests {
-        asked,
-        manual: by_hand,
+        asked: asked_by(outputs, normal),
+        manual: asked_by(outputs, manual),
     }
+}
+
+// The outputs of one panel whose markers are true. Where no marker is true, as by hand mostly, no output is looked at.
+fn asked_by(outputs: &[Output], values: &Values) -> u32
+    ensures { result ≡ asked_among (values_of values.now) outputs.now }
+{
+    if *values == Values::none() {
+        return 0;
+    }
+    let mut asked = 0;
+    for output in outputs {
+        asked = with_output(asked, output, values);
+    }
+    asked
 }
 
 // A mask with the bit of an output, where its marker is true.
