@@ -34,7 +34,7 @@ use Rattle.caused_zones.specs.Marks.{passes_below}
 use Rattle.caused_zones.specs.Stands.{was_given}
 use Rattle.caused_zones.proofs.Answered.{counted_in, counted_is}
 use Rattle.caused_zones.proofs.EachAfter.{below_here, here_below}
-use Rattle.caused_zones.proofs.Near.{AreKnown, near_is, uncancelled_is}
+use Rattle.caused_zones.proofs.NearAnswers.{AreKnown, near_is, uncancelled_is}
 use Rattle.caused_zones.proofs.VerifiedMarks.{last_now, verified_is}
 
 -- tests of the zone and of its partner that agree make the same pairs

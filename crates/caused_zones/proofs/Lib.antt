@@ -3,7 +3,7 @@ pub mod JudgedBelow
 pub mod Answered
 pub mod Undone
 pub mod ByZone
-pub mod Near
+pub mod NearAnswers
 pub mod VerifiedMarks
 pub mod Confirming
 pub mod Earlier

@@ -36,7 +36,7 @@ use Rattle.caused_zones.proofs.Confirming.{called_now, confirmed_now}
 use Rattle.caused_zones.proofs.Earlier.{block_answers, confirms_front, given_front}
 use Rattle.caused_zones.proofs.MarkSteps.{mark_counted, mark_stays}
 use Rattle.caused_zones.proofs.MarkUndone.{mark_undone}
-use Rattle.caused_zones.proofs.Near.{AreKnown}
+use Rattle.caused_zones.proofs.NearAnswers.{AreKnown}
 use Rattle.caused_zones.proofs.Undone.{none_is, undone_none}
 
 -- lists that were written through a slice

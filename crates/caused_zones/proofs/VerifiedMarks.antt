@@ -27,7 +27,7 @@ use Rattle.caused_zones.specs.Judging.{is_mark_verified, mark_at}
 use Rattle.caused_zones.specs.Undoing.{undoes_at, was_undone}
 use Rattle.caused_zones.proofs.Answered.{answered, asked_is, counted_by, counted_in, counted_is}
 use Rattle.caused_zones.proofs.ByZone.{undone_A, undone_at}
-use Rattle.caused_zones.proofs.Near.{AreKnown}
+use Rattle.caused_zones.proofs.NearAnswers.{AreKnown}
 use Rattle.caused_zones.proofs.Undone.{last_before, none_undid, undone_none}
 
 module _ (site : Site) (kept : Retained) (operations : List DoneOperation) (taken now : ℕ) (moments : List Moment) (marks : List PointMark) (known :

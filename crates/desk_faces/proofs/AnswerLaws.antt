@@ -7,7 +7,7 @@ use Rattle.panel_edges.proofs.Counting.{rose_since}
 use Rattle.panel_edges.proofs.Growing.{front_longer, front_more, grows_more}
 use Rattle.face_text.specs.Holding.{Moves, Puts}
 use Rattle.face_text.proofs.Holding.{broke_more, moves_more, moves_none}
-use Rattle.desk_faces.specs.Standing.{AddsText, EndsAnswer, Outlet, IsTold, WritesText}
+use Rattle.desk_faces.specs.Outlets.{AddsText, EndsAnswer, Outlet, IsTold, WritesText}
 use Rattle.desk_faces.specs.declared.answer_writer.AnswerWriter.{AnswerWriter}
 
 not_both : {P : Type 0} (b : Bool) → b ≡ true → b ≡ false → P

@@ -1,2 +1,2 @@
 pub mod FaceObjects
-pub mod Standing
+pub mod Outlets

@@ -1,6 +1,6 @@
 ghost use Rattle.std.specs.Prelude.{◌≡◌, ◌≤◌, [], is_err, length};
 ghost use Rattle.face_text.specs.Lists.{list_text};
-ghost use Rattle.desk_faces.specs.Standing.{AddsText, EndsAnswer, Outlet, IsTold, outlet};
+ghost use Rattle.desk_faces.specs.Outlets.{AddsText, EndsAnswer, Outlet, IsTold, outlet};
 
 use face_text::{Face, FaceList, Held, push_list};
 use panel_edges::{Failed, Sink};

@@ -2,7 +2,7 @@ ghost use Rattle.std.specs.Prelude.{◌≡◌, ◌++◌};
 ghost use Rattle.desk_answers.specs.AnswerHeads.{answer_head};
 ghost use Rattle.desk_answers.specs.declared.content.Content.TheVariants.{Json};
 ghost use Rattle.desk_faces.specs.FaceObjects.{face_lists, face_object};
-ghost use Rattle.desk_faces.specs.Standing.{AddsText, WritesText, outlet};
+ghost use Rattle.desk_faces.specs.Outlets.{AddsText, WritesText, outlet};
 ghost use Rattle.desk_requests.specs.declared.status.Status.TheVariants.{Done};
 
 use crate::answer_writer::AnswerWriter;

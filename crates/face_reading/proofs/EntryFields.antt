@@ -5,7 +5,7 @@ use Rattle.std.specs.List.{list_all}
 use Rattle.std.proofs.lemmas.Bool.{and_parts, ne_eqb}
 use Rattle.line_fields.proofs.Joined.{HasFields, plain_all_clear, plain_clear, spaced}
 use Rattle.line_fields.proofs.Joined.{fields_of as fields_spaced}
-use Rattle.line_fields.proofs.Plain.{are_plain, is_plain, plain_range}
+use Rattle.line_fields.proofs.PlainFields.{are_plain, is_plain, plain_range}
 use Rattle.face_reading.specs.Reading.{line_ends}
 use Rattle.face_reading.proofs.LineEnds.{line_ends-append}
 

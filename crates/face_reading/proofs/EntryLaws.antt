@@ -14,7 +14,7 @@ use Rattle.face_reading.specs.EntryLines.{IsLineOf}
 use Rattle.face_reading.proofs.ReadSoFar.{IsOneLine}
 use Rattle.face_reading.specs.Spelled.{entry_spelled}
 use Rattle.face_reading.proofs.EntryFields.{ends_joined, joined}
-use Rattle.line_fields.proofs.Plain.{are_plain, decimal_plain, is_plain, name_plain}
+use Rattle.line_fields.proofs.PlainFields.{are_plain, decimal_plain, is_plain, name_plain}
 use Rattle.face_reading.proofs.SpelledEntries.{entry_is}
 
 -- a line of an entry spells it

@@ -21,7 +21,7 @@ use Rattle.face_reading.specs.Spelled.{number_spelled, numbered, output_at, outp
 use Rattle.face_reading.specs.Spelled.{point_at, point_named, point_spelled, thing_spelled, zone_at, zone_named}
 use Rattle.face_reading.specs.Spelled.{zone_spelled}
 use Rattle.line_fields.specs.Numbers.{number_below}
-use Rattle.line_fields.proofs.Plain.{decimal_plain, is_plain, name_plain}
+use Rattle.line_fields.proofs.PlainFields.{decimal_plain, is_plain, name_plain}
 
 -- ---- what is found in a list by a test
 

@@ -29,7 +29,7 @@ use Rattle.face_reading.proofs.EntryFields.{fields_of, joined}
 use Rattle.face_reading.proofs.NamedThings.{below_back}
 use Rattle.line_fields.specs.Numbers.{number_below}
 use Rattle.line_fields.specs.Words.{truth_of}
-use Rattle.line_fields.proofs.Plain.{are_plain, decimal_plain, is_plain}
+use Rattle.line_fields.proofs.PlainFields.{are_plain, decimal_plain, is_plain}
 use Rattle.face_reading.proofs.SpelledLines.{IsSpelled, IsTold, state_back, state_line, state_of, state_plain, thing_told, told_spelled}
 
 -- ---- delays, buzzer, counter and busy panels

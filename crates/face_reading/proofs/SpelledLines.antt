@@ -22,7 +22,7 @@ use Rattle.face_reading.proofs.EntryFields.{fields_of, joined}
 use Rattle.face_reading.proofs.NamedThings.{ThingBack, below_back, thing_back, word_at, words_of}
 use Rattle.line_fields.specs.Numbers.{number_below}
 use Rattle.line_fields.specs.Words.{truth_of}
-use Rattle.line_fields.proofs.Plain.{are_plain, decimal_plain, is_plain}
+use Rattle.line_fields.proofs.PlainFields.{are_plain, decimal_plain, is_plain}
 
 -- the fields of an entry's line
 pub record IsSpelled (site : Site) (entry : Entry) : Type 0 where

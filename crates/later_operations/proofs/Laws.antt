@@ -5,10 +5,10 @@ use Rattle.later_operations.specs.Faults.{FaultsStay, OutsideStays}
 use Rattle.later_operations.specs.Outputs.{OutputsStay}
 use Rattle.later_operations.specs.Calls.{CallsStay}
 use Rattle.later_operations.proofs.DoneFrom.{are_from}
-use Rattle.later_operations.proofs.Told.{word_later, told_later, kept_word_later, ring_later, facts_later, latest_facts_later}
-use Rattle.later_operations.proofs.Told.{released_at_effect_later, faults_later, outside_later}
-use Rattle.later_operations.proofs.Told.{on_later, on_run_later, confirmed_later, unconfirmed_later}
-use Rattle.later_operations.proofs.Told.{requests_later, routing_calls_later, delay_calls_later, silence_calls_later}
+use Rattle.later_operations.proofs.EarlierWords.{word_later, told_later, kept_word_later, ring_later, facts_later, latest_facts_later}
+use Rattle.later_operations.proofs.EarlierWords.{released_at_effect_later, faults_later, outside_later}
+use Rattle.later_operations.proofs.EarlierWords.{on_later, on_run_later, confirmed_later, unconfirmed_later}
+use Rattle.later_operations.proofs.EarlierWords.{requests_later, routing_calls_later, delay_calls_later, silence_calls_later}
 
 pub words : WordsStay
 words site kept panel tick new old moments from by = word_later site kept new old tick (are_from tick new from) panel moments by

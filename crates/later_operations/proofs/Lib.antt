@@ -6,7 +6,7 @@ pub mod ByOutputs
 -- what later operations change nothing of: outputs over given facts, what is made of answers, what words tell
 pub mod GoesOn
 pub mod Signs
-pub mod Told
+pub mod EarlierWords
 -- the laws
 pub mod DoneFrom
 pub mod Laws

@@ -6,7 +6,7 @@ use Rattle.std.proofs.lemmas.Bool.{and_from, and_parts, leb-true, ne_eqb, not-tr
 use Rattle.std.proofs.lemmas.List.Sums.{sum_by-append}
 use Rattle.line_fields.specs.Fields.{each_field, space_count}
 use Rattle.site_types.specs.Fields.{after_space, before_space, field}
-use Rattle.line_fields.proofs.Plain.{are_fit, are_plain, is_fit, is_plain, plain_range}
+use Rattle.line_fields.proofs.PlainFields.{are_fit, are_plain, is_fit, is_plain, plain_range}
 
 -- ---- fields without spaces
 

@@ -1,5 +1,5 @@
 -- texts put together of plain fields
 pub mod Joined
-pub mod Plain
+pub mod PlainFields
 -- where the first space lies, and loops over fields
 pub mod Spaces

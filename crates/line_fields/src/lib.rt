@@ -11,7 +11,7 @@
 //! word says is what stands beside it.
 //!
 //! `proofs/Joined` has what holds of a text that was put together of fields without spaces: each of them is
-//! found again at its place, and they are as many. `proofs/Plain` says which fields are such: names, codes and
+//! found again at its place, and they are as many. `proofs/PlainFields` says which fields are such: names, codes and
 //! numbers.
 //!
 //! No call takes memory.

@@ -26,7 +26,7 @@ use Rattle.later_operations.proofs.DoneFrom.{are_from}
 use Rattle.later_operations.proofs.Earlier.{then_earlier, up_to_tick}
 use Rattle.later_operations.proofs.GoesOn.{goes_later}
 use Rattle.later_operations.proofs.Signs.{missing_later, signs_later}
-use Rattle.later_operations.proofs.Told.{IsUpTo}
+use Rattle.later_operations.proofs.EarlierWords.{IsUpTo}
 use Rattle.node_rules.specs.Handed.{facts_by_words, facts_of_words, faults_at_word, outside_by_words, own_tells, own_tells_to, words_held}
 use Rattle.node_rules.specs.HandedStays.{WhatIsHandedStays}
 

@@ -14,7 +14,7 @@ use Rattle.face_text.specs.declared.face.Face.{Face}
 use Rattle.face_text.proofs.EqualFaces.{faces_from}
 use Rattle.later_operations.specs.Later.{AreDoneFrom}
 use Rattle.later_operations.proofs.Laws.{faults, outputs}
-use Rattle.later_operations.proofs.Told.{faults_later, kept_word_later, latest_word_later}
+use Rattle.later_operations.proofs.EarlierWords.{faults_later, kept_word_later, latest_word_later}
 use Rattle.panel_conditions.specs.Shown.{is_news, sounds}
 use Rattle.panel_laws.proofs.LaterDone.{turn_in_time}
 use Rattle.panel_rules.specs.Faces.{buzzer_of, last_news, shown_word, shows_news}

@@ -22,7 +22,7 @@ use Rattle.record_lines.specs.declared.line.Line.TheVariants.{Event as EventLine
 use Rattle.record_lines.specs.declared.ticks_so_far.TicksSoFar.{TicksSoFar}
 use Rattle.line_fields.proofs.Joined.{HasFields}
 use Rattle.record_lines.proofs.Joins.{fields_of, fit_more, joined_text}
-use Rattle.line_fields.proofs.Plain.{are_fit, number_fit, octet_small}
+use Rattle.line_fields.proofs.PlainFields.{are_fit, number_fit, octet_small}
 use Rattle.record_lines.proofs.PrintedNames.{at_place}
 use Rattle.record_lines.proofs.PrintedWords.{piece_word}
 use Rattle.record_lines.proofs.Rows.{cable_row}

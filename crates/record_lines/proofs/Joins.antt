@@ -7,7 +7,7 @@ use Rattle.std.proofs.lemmas.List.Folds.{list_all-append}
 use Rattle.site_types.specs.Fields.{after_space}
 use Rattle.line_fields.proofs.Joined.{HasFields, after_first, all_clear, before_word, both, fit_all_clear, fit_clear, fit_plain, fit_short, is_clear, parted, spaced}
 use Rattle.line_fields.proofs.Joined.{fields_of as fields_spaced}
-use Rattle.line_fields.proofs.Plain.{are_fit, is_fit, is_plain, plain_range}
+use Rattle.line_fields.proofs.PlainFields.{are_fit, is_fit, is_plain, plain_range}
 use Rattle.record_lines.specs.Lines.{is_printable, refusal_within}
 use Rattle.record_lines.specs.Printed.{joined}
 use Rattle.record_lines.specs.declared.why.Why.TheVariants.{NotAscii}

@@ -7,7 +7,7 @@ use Rattle.site_types.proofs.Spelling.{decimal-number_of, number_parts}
 use Rattle.tick_units.specs.Ticks.{last_tick}
 use Rattle.line_fields.specs.Fields.{field_count, space_count}
 use Rattle.line_fields.specs.Numbers.{is_number}
-use Rattle.line_fields.proofs.Plain.{number_fit}
+use Rattle.line_fields.proofs.PlainFields.{number_fit}
 use Rattle.line_fields.proofs.Spaces.{parted_text, two_fields}
 use Rattle.site_types.specs.Fields.{after_space, field}
 use Rattle.record_lines.specs.Forms.{Form, TickForm, form_of}

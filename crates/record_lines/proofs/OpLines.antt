@@ -34,7 +34,7 @@ use Rattle.record_lines.specs.declared.line.Line.TheVariants.{Event as EventLine
 use Rattle.record_lines.specs.declared.ticks_so_far.TicksSoFar.{TicksSoFar}
 use Rattle.line_fields.proofs.Joined.{HasFields}
 use Rattle.record_lines.proofs.Joins.{fields_of, fit_more, joined_text}
-use Rattle.line_fields.proofs.Plain.{are_fit, code_fit, is_fit, number_fit, octet_small}
+use Rattle.line_fields.proofs.PlainFields.{are_fit, code_fit, is_fit, number_fit, octet_small}
 use Rattle.record_lines.proofs.PrintedNames.{IsNamed, output_there, point_with, zone_there}
 use Rattle.record_lines.proofs.PrintedWords.{word_of_on}
 use Rattle.record_lines.proofs.Rows.{op_row}

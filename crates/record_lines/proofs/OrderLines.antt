@@ -31,7 +31,7 @@ use Rattle.record_lines.specs.declared.ticks_so_far.TicksSoFar.{TicksSoFar}
 use Rattle.record_lines.specs.declared.why.Why.TheVariants.{BadOrder}
 use Rattle.line_fields.proofs.Joined.{each_parted, fit_all_clear}
 use Rattle.record_lines.proofs.Joins.{after_joined, fields_of, joined_text, seats_parted}
-use Rattle.line_fields.proofs.Plain.{decimal_plain, is_fit, is_plain}
+use Rattle.line_fields.proofs.PlainFields.{decimal_plain, is_fit, is_plain}
 use Rattle.record_lines.proofs.Rows.{order_row}
 use Rattle.record_lines.proofs.Verdicts.{IsTextOf, begun, judged_from, number_back, passed}
 

@@ -15,7 +15,7 @@ use Rattle.site_types.specs.declared.zone.Zone.{Zone as ZoneOf}
 use Rattle.site_types.specs.declared.output.Output.{Output as OutputOf}
 use Rattle.site_types.proofs.Finding.{thing_named_iff}
 use Rattle.record_lines.specs.Printed.{known_name, name_text}
-use Rattle.line_fields.proofs.Plain.{is_fit, name_fit}
+use Rattle.line_fields.proofs.PlainFields.{is_fit, name_fit}
 
 pub record IsNamed (site : Site) (thing : Thing) : Type 0 where
   pub fit : is_fit 20 (name_text site thing) ≡ true

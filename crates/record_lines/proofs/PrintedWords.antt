@@ -9,7 +9,7 @@ use Rattle.site_types.specs.declared.supply_kind.SupplyKind.TheVariants.{Mains, 
 use Rattle.record_lines.specs.Printed.{bad_word, on_word, piece_state_word, point_state_word, supply_word, up_word}
 use Rattle.record_lines.specs.Words.{is_bad_of, is_up_of, piece_state_of, point_state_of, supply_kind_of}
 use Rattle.line_fields.specs.Words.{truth_of}
-use Rattle.line_fields.proofs.Plain.{is_fit}
+use Rattle.line_fields.proofs.PlainFields.{is_fit}
 
 -- a word is short and plain, and is read back
 pub record IsWord {A : Type 0} (read : List ℕ → Option A) (word : List ℕ) (meaning : A) : Type 0 where

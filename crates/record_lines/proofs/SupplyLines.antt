@@ -19,7 +19,7 @@ use Rattle.record_lines.specs.declared.line.Line.TheVariants.{Event as EventLine
 use Rattle.record_lines.specs.declared.ticks_so_far.TicksSoFar.{TicksSoFar}
 use Rattle.line_fields.proofs.Joined.{HasFields}
 use Rattle.record_lines.proofs.Joins.{fields_of, fit_more, joined_text}
-use Rattle.line_fields.proofs.Plain.{number_fit, octet_small}
+use Rattle.line_fields.proofs.PlainFields.{number_fit, octet_small}
 use Rattle.record_lines.proofs.PrintedWords.{kind_word, word_of_bad, word_of_up}
 use Rattle.record_lines.proofs.Rows.{link_row, supply_row}
 use Rattle.record_lines.proofs.Verdicts.{IsTextOf, begun, counted, event_from, judged_event, number_there, octet_back}

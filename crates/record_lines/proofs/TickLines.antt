@@ -14,7 +14,7 @@ use Rattle.record_lines.specs.declared.line.Line.TheVariants.{Tick as TickLine, 
 use Rattle.record_lines.specs.declared.ticks_so_far.TicksSoFar.{TicksSoFar}
 use Rattle.record_lines.specs.declared.why.Why.TheVariants.{BadTick, TickLimit}
 use Rattle.record_lines.proofs.Joins.{fields_of, fit_more, joined_text}
-use Rattle.line_fields.proofs.Plain.{number_fit}
+use Rattle.line_fields.proofs.PlainFields.{number_fit}
 use Rattle.record_lines.proofs.Rows.{tick_row}
 use Rattle.record_lines.proofs.Verdicts.{IsTextOf, counted, judged_from, number_back, number_there}
 

@@ -13,6 +13,6 @@ pub mod Reading
 pub mod Registered
 pub mod States
 pub mod Steady
-pub mod Told
+pub mod FoundRows
 pub mod Understood
 pub mod Wanting

@@ -8,7 +8,7 @@ use Rattle.register_sqlite.specs.Texts.{number_params, select_visit_text}
 use Rattle.register_sqlite.proofs.Asked.{ask_fails, none_answered, row_answered, visit_answered}
 use Rattle.register_sqlite.proofs.Reading.{select_visit_wants}
 use Rattle.register_sqlite.proofs.Wanting.{steadily}
-use Rattle.register_sqlite.proofs.Told.{none_read, value_read, visit_read}
+use Rattle.register_sqlite.proofs.FoundRows.{none_read, value_read, visit_read}
 use Rattle.register_sqlite.proofs.asking.find_visit.Goals as goal
 
 pub returns-in-Some-visit_of-clause-register : goal.returns-in-Some-visit_of-clause-register

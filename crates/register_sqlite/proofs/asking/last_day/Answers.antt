@@ -6,7 +6,7 @@ use Rattle.register_sqlite.specs.Stored.{tables_in}
 use Rattle.register_sqlite.specs.Texts.{point_params, select_tests_text}
 use Rattle.register_sqlite.proofs.Asked.{ask_fails, day_stepped, last_answered, last_refused, rows_numbered, stays_then, tests_stay}
 use Rattle.register_sqlite.proofs.Reading.{select_tests_wants}
-use Rattle.register_sqlite.proofs.Told.{clean_before, each_ended, each_refused, each_stepped, follows_then}
+use Rattle.register_sqlite.proofs.FoundRows.{clean_before, each_ended, each_refused, each_stepped, follows_then}
 use Rattle.register_sqlite.proofs.Wanting.{steadily}
 use Rattle.register_sqlite.specs.Asked.{HasNumber}
 use Rattle.register_sqlite.proofs.asking.last_day.Goals as goal

@@ -3,7 +3,7 @@ use Rattle.sqlite.specs.Held.{state}
 use Rattle.register_sqlite.proofs.Created.{tests_created, visits_created}
 use Rattle.register_sqlite.proofs.Making.{create_tests_wants, create_visits_wants}
 use Rattle.register_sqlite.proofs.Wanting.{steadily}
-use Rattle.register_sqlite.proofs.Told.{clean_before}
+use Rattle.register_sqlite.proofs.FoundRows.{clean_before}
 use Rattle.register_sqlite.proofs.asking.make_tables.Goals as goal
 
 pub returns-in-Ok-create_tests-clause-made : goal.returns-in-Ok-create_tests-clause-made

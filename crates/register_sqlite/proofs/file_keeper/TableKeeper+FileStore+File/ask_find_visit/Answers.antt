@@ -1,6 +1,6 @@
 use Rattle.sqlite.specs.Files.{file_state, over_files}
 use Rattle.register_sqlite.specs.Asked.{LooksUp}
-use Rattle.register_sqlite.proofs.Told.{asks_none, asks_then}
+use Rattle.register_sqlite.proofs.FoundRows.{asks_none, asks_then}
 use Rattle.register_sqlite.proofs.file_keeper.TableKeeper+FileStore+File.ask_find_visit.Goals as goal
 
 pub returns-in-Some-clause-asks : goal.returns-in-Some-clause-asks

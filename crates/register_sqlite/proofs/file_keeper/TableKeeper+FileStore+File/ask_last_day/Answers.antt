@@ -1,6 +1,6 @@
 use Rattle.sqlite.specs.Files.{over_files}
 use Rattle.register_sqlite.specs.Asked.{LooksUpDays}
-use Rattle.register_sqlite.proofs.Told.{asks_none, asks_then}
+use Rattle.register_sqlite.proofs.FoundRows.{asks_none, asks_then}
 use Rattle.register_sqlite.proofs.file_keeper.TableKeeper+FileStore+File.ask_last_day.Goals as goal
 
 pub returns-in-Some-clause-asks : goal.returns-in-Some-clause-asks

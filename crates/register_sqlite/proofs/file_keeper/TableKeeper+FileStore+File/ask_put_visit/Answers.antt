@@ -2,7 +2,7 @@ use Rattle.service_keepers.specs.Rows.{visit_row}
 use Rattle.sqlite.specs.Files.{file_state, over_files}
 use Rattle.register_sqlite.specs.Asked.{RunsText}
 use Rattle.register_sqlite.specs.Texts.{insert_visit_text, visit_params}
-use Rattle.register_sqlite.proofs.Told.{asks_none, asks_then}
+use Rattle.register_sqlite.proofs.FoundRows.{asks_none, asks_then}
 use Rattle.register_sqlite.proofs.file_keeper.TableKeeper+FileStore+File.ask_put_visit.Goals as goal
 
 pub returns-in-Some-clause-asks : goal.returns-in-Some-clause-asks

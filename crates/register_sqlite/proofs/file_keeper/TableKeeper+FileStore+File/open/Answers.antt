@@ -1,6 +1,6 @@
 use Rattle.std.proofs.Common.{sym, ◌∙◌}
 use Rattle.sqlite.specs.Files.{over_files}
-use Rattle.register_sqlite.proofs.Told.{newly_open, not_made}
+use Rattle.register_sqlite.proofs.FoundRows.{newly_open, not_made}
 use Rattle.register_sqlite.proofs.file_keeper.TableKeeper+FileStore+File.open.Goals as goal
 
 pub returns-in-Ok-make_tables-clause-opens : goal.returns-in-Ok-make_tables-clause-opens
