@@ -1,7 +1,10 @@
-pub mod Expanded
-pub mod Moving
+-- bits: which answers of a group are alarms, silent or quiet, and which places are in a set
 pub mod MaskBits
 pub mod PlaceSets
+-- the list of a run's items, and one finding more in a group or behind a run
+pub mod Expanded
+pub mod FindingRuns
+-- taking from a lane: item by item, whole runs from its front, or all that lies in it
+pub mod Moving
 pub mod WholeRuns
 pub mod AllRuns
-pub mod FindingRuns

@@ -1,9 +1,12 @@
+-- bits: masks of zones, and bytes that have no bits but those of others
 mod ZoneMasks
-mod Printing
 pub mod Beyond
-pub mod WordBytes
 pub mod Fitting
-pub mod Taken
+-- words: the bytes that spell one, and which words a frame may have
+pub mod WordBytes
 pub mod MostWords
+-- whole frames: printed, taken from bytes, and read back
+mod Printing
+pub mod Taken
 pub mod PrintedFrames
 pub mod ReadFrames
