@@ -11,7 +11,7 @@ use Rattle.panel_audit.specs.declared.numbered.Numbered.{Numbered}
 use Rattle.panel_audit.specs.Numbers.{AreOutputNumbers}
 use Rattle.panel_audit.specs.Places.{FirstPlace, IsFirstPlace}
 use Rattle.panel_audit.proofs.FirstBreaches.{higher_first, same_first}
-use Rattle.panel_audit.proofs.Marking.{got_few}
+use Rattle.panel_audit.proofs.WrittenMarks.{got_few}
 use Rattle.panel_audit.proofs.NumbersTaken.{number_is, of_thing, panel_is, thing_of}
 use Rattle.panel_audit.proofs.RuleBreaches.{BreaksAt, FirstOfRule}
 

@@ -13,7 +13,7 @@ use Rattle.panel_audit.specs.Lowest.{standing_of}
 use Rattle.panel_audit.specs.Numbers.{AreZoneNumbers}
 use Rattle.panel_audit.specs.Places.{FirstFound, IsFirstFound}
 use Rattle.panel_audit.proofs.FirstBreaches.{higher_first, same_first}
-use Rattle.panel_audit.proofs.Marking.{got_few}
+use Rattle.panel_audit.proofs.WrittenMarks.{got_few}
 use Rattle.panel_audit.proofs.NumbersTaken.{number_is, of_thing, panel_is, thing_of}
 use Rattle.panel_audit.proofs.RuleBreaches.{BreaksAt, FirstOfRule}
 

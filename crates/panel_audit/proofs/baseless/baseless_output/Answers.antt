@@ -2,8 +2,8 @@ use Rattle.std.proofs.Common.{◌∙◌}
 use Rattle.blocked_points.specs.Operations.{done_newest_first}
 use Rattle.panel_rules.specs.Moments.{moments}
 use Rattle.panel_audit.specs.Broken.{IsBaseless}
-use Rattle.panel_audit.proofs.Bases.{still_solved}
-use Rattle.panel_audit.proofs.Darkness.{scanned}
+use Rattle.panel_audit.proofs.OutputCauses.{still_solved}
+use Rattle.panel_audit.proofs.OutputsNotOn.{scanned}
 use Rattle.panel_audit.proofs.baseless.baseless_output.Goals as goal
 
 pub returns-clause-solved : goal.returns-clause-solved

@@ -1,6 +1,6 @@
 use Rattle.std.proofs.Common.{◌∙◌, ◌+◌, refl, sym, subst}
 use Rattle.shown_causes.specs.Heard.{TellsHeard}
-use Rattle.panel_audit.proofs.Bases.{heard_nothing}
+use Rattle.panel_audit.proofs.OutputCauses.{heard_nothing}
 use Rattle.panel_audit.proofs.baseless.hear.Goals as goal
 
 pub returns-then-outputs_of-ne0 : goal.returns-then-outputs_of-ne0

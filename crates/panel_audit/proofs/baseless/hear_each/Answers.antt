@@ -1,6 +1,6 @@
 use Rattle.std.proofs.Common.{arith}
 use Rattle.std.proofs.lemmas.Option.{slice_get-get_or}
-use Rattle.panel_audit.proofs.Bases.{heard_all, heard_more}
+use Rattle.panel_audit.proofs.OutputCauses.{heard_all, heard_more}
 use Rattle.panel_audit.proofs.baseless.hear_each.Goals as goal
 
 pub loop-place-preserved : goal.loop-place-preserved

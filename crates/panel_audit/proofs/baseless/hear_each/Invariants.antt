@@ -1,5 +1,5 @@
 use Rattle.panel_audit.specs.Scans.{HeardSolved}
-use Rattle.panel_audit.proofs.Bases.{HeardBelow}
+use Rattle.panel_audit.proofs.OutputCauses.{HeardBelow}
 use Rattle.panel_audit.proofs.baseless.hear_each.Given as goal
 
 -- the panels before a place have heard

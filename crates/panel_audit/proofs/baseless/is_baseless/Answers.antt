@@ -3,7 +3,7 @@ use Rattle.std.proofs.lemmas.Option.{slice_get-get_or}
 use Rattle.std.specs.Option.{option_copied}
 use Rattle.site_types.proofs.ValidSites.{output_at}
 use Rattle.blocked_points.specs.Operations.{done_newest_first}
-use Rattle.panel_audit.proofs.Bases.{heard_there, none_baseless, off_has_none, on_may_have}
+use Rattle.panel_audit.proofs.OutputCauses.{heard_there, none_baseless, off_has_none, on_may_have}
 use Rattle.panel_audit.proofs.baseless.is_baseless.Goals as goal
 
 pub returns-in-None : goal.returns-in-None

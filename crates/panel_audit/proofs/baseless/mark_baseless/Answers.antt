@@ -1,7 +1,7 @@
 use Rattle.std.proofs.Common.{◌∙◌, ◌<◌, sym, subst, length}
 use Rattle.std.proofs.lemmas.List.{length-set}
 use Rattle.panel_audit.specs.Scans.{TellsBaseless}
-use Rattle.panel_audit.proofs.Marking.{written_all, written_more}
+use Rattle.panel_audit.proofs.WrittenMarks.{written_all, written_more}
 use Rattle.panel_audit.proofs.baseless.mark_baseless.Goals as goal
 
 pub loop-place-preserved : goal.loop-place-preserved

@@ -1,5 +1,5 @@
 use Rattle.std.proofs.Common.{refl}
-use Rattle.panel_audit.proofs.Bases.{all_solved}
+use Rattle.panel_audit.proofs.OutputCauses.{all_solved}
 use Rattle.panel_audit.proofs.baseless.nothing_heard.Goals as goal
 
 pub returns : goal.returns

@@ -2,7 +2,7 @@ use Rattle.blocked_points.specs.Operations.{done_newest_first}
 use Rattle.panel_rules.specs.Moments.{moments}
 use Rattle.panel_audit.specs.Broken.{IsDark}
 use Rattle.std.proofs.Common.{◌∙◌}
-use Rattle.panel_audit.proofs.Darkness.{scanned}
+use Rattle.panel_audit.proofs.OutputsNotOn.{scanned}
 use Rattle.panel_audit.proofs.dark.dark_output.Goals as goal
 
 pub returns-clause-scans : goal.returns-clause-scans

@@ -3,7 +3,7 @@ use Rattle.std.specs.Option.{option_copied}
 use Rattle.blocked_points.specs.Operations.{done_newest_first}
 use Rattle.panel_rules.specs.Moments.{moments}
 use Rattle.due_outputs.specs.DueOn.{IsDueUnexcused}
-use Rattle.panel_audit.proofs.Darkness.{dark_both, none_dark, not_due}
+use Rattle.panel_audit.proofs.OutputsNotOn.{dark_both, none_dark, not_due}
 use Rattle.panel_audit.proofs.dark.is_dark.Goals as goal
 
 pub returns-in-None : goal.returns-in-None

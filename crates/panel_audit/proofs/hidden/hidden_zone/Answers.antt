@@ -4,7 +4,7 @@ use Rattle.std.proofs.lemmas.Option.{slice_get-get_or}
 use Rattle.panel_audit.specs.Broken.{IsHidden}
 use Rattle.panel_audit.specs.Lowest.{MarkedLowest}
 use Rattle.panel_audit.specs.Places.{FirstPlace}
-use Rattle.panel_audit.proofs.Hiding.{place_scanned}
+use Rattle.panel_audit.proofs.HiddenZones.{place_scanned}
 use Rattle.panel_audit.proofs.hidden.hidden_zone.Goals as goal
 
 pub loop-place-preserved : goal.loop-place-preserved

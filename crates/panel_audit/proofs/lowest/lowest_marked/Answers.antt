@@ -1,6 +1,6 @@
 use Rattle.std.proofs.Common.{◌≡◌, sym, subst, arith, length}
 use Rattle.panel_audit.specs.Lowest.{LowestBefore}
-use Rattle.panel_audit.proofs.LowerOnes.{comes_now, not_first, not_marked}
+use Rattle.panel_audit.proofs.FirstThings.{comes_now, not_first, not_marked}
 use Rattle.panel_audit.proofs.lowest.lowest_marked.Goals as goal
 use Rattle.panel_audit.proofs.lowest.lowest_marked.Goals.{then-is_marked+then-comes_first, else-is_marked, else-is_marked-via-then-is_marked+else-comes_first, else-is_marked-via-else-is_marked}
 

@@ -1,7 +1,7 @@
 use Rattle.std.proofs.Common.{◌∙◌, sym, ap}
 use Rattle.std.proofs.lemmas.Option.{get_or_from_slice_get}
 use Rattle.panel_audit.specs.Lowest.{is_in_masks}
-use Rattle.panel_audit.proofs.Uncausing.{in_site, no_cause, not_shown}
+use Rattle.panel_audit.proofs.ZoneCauses.{in_site, no_cause, not_shown}
 use Rattle.panel_audit.proofs.uncaused.is_uncaused.Goals as goal
 
 pub returns-then-is_in : goal.returns-then-is_in

@@ -5,7 +5,7 @@ use Rattle.panel_rules.specs.Moments.{moments as moments_of}
 use Rattle.panel_audit.specs.Broken.{IsUncaused}
 use Rattle.panel_audit.specs.Lowest.{MarkedLowest}
 use Rattle.panel_audit.specs.Places.{FirstPlace}
-use Rattle.panel_audit.proofs.Uncausing.{shown_scanned}
+use Rattle.panel_audit.proofs.ZoneCauses.{shown_scanned}
 use Rattle.panel_audit.proofs.uncaused.uncaused_zone.Goals as goal
 
 pub loop-place-preserved : goal.loop-place-preserved

@@ -1,7 +1,7 @@
 use Rattle.std.proofs.Common.{option_map, subst, sym}
 use Rattle.panel_audit.specs.Breaking.{breach_in}
 use Rattle.panel_audit.specs.Firsts.{FirstInTick}
-use Rattle.panel_audit.proofs.Finding.{finds_baseless, finds_dark, finds_hidden, finds_none, finds_uncaused}
+use Rattle.panel_audit.proofs.FirstOfScan.{finds_baseless, finds_dark, finds_hidden, finds_none, finds_uncaused}
 use Rattle.panel_audit.proofs.scan.Scan.first_broken.Goals as goal
 
 pub returns-in-Some-clause-finds : goal.returns-in-Some-clause-finds

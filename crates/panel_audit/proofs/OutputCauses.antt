@@ -23,7 +23,7 @@ use Rattle.shown_causes.specs.declared.shown_causes.ShownCauses.{ShownCauses}
 use Rattle.shown_causes.specs.Heard.{StandsFor as CausesStand, TellAllHeard}
 use Rattle.panel_audit.specs.Broken.{IsBaseless}
 use Rattle.panel_audit.specs.Scans.{AreFacesAfter, HaveHeard, HeardSolved, IsHeardAt}
-use Rattle.panel_audit.proofs.Darkness.{on_by, one_output, told_on}
+use Rattle.panel_audit.proofs.OutputsNotOn.{on_by, one_output, told_on}
 use Rattle.panel_audit.proofs.TicksJudged.{row_is, row_within}
 
 module _ (site : Site) (causes : ShownCauses) (joined : JoinedPanels) (faces : List Face) where

@@ -17,7 +17,7 @@ use Rattle.panel_audit.specs.Broken.{IsDark}
 use Rattle.panel_audit.specs.Lowest.{MarkedLowest}
 use Rattle.panel_audit.specs.Places.{FirstPlace}
 use Rattle.panel_audit.specs.Scans.{AreFacesAfter}
-use Rattle.panel_audit.proofs.Marking.{first_marked}
+use Rattle.panel_audit.proofs.WrittenMarks.{first_marked}
 
 -- what the faces show of an output, as its bit
 abbrev pub on_by : List Face → Output → Bool

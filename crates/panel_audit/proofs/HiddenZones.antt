@@ -21,7 +21,7 @@ use Rattle.panel_audit.specs.Lowest.{MarkedLowest, is_in_masks, is_left}
 use Rattle.panel_audit.specs.Numbers.{AreZoneNumbers}
 use Rattle.panel_audit.specs.Places.{AreWritten, FirstPlace, IsLeftAt}
 use Rattle.panel_audit.specs.Scans.{AreFacesAfter}
-use Rattle.panel_audit.proofs.Marking.{first_marked, got_few}
+use Rattle.panel_audit.proofs.WrittenMarks.{first_marked, got_few}
 use Rattle.panel_audit.proofs.NumbersTaken.{number_is, of_thing, panel_is}
 
 pub both_true : (a b : Bool) → (a && b) ≡ true → (a ≡ true) × (b ≡ true)

@@ -23,8 +23,8 @@ use Rattle.panel_audit.specs.Lowest.{MarkedLowest, is_in_masks}
 use Rattle.panel_audit.specs.Numbers.{AreZoneNumbers}
 use Rattle.panel_audit.specs.Places.{AreWritten, FirstPlace}
 use Rattle.panel_audit.specs.Scans.{AreFacesAfter, MarksUncaused}
-use Rattle.panel_audit.proofs.Hiding.{shown_is, thing_there}
-use Rattle.panel_audit.proofs.Marking.{first_marked, got_few}
+use Rattle.panel_audit.proofs.HiddenZones.{shown_is, thing_there}
+use Rattle.panel_audit.proofs.WrittenMarks.{first_marked, got_few}
 use Rattle.panel_audit.proofs.NumbersTaken.{number_is, of_thing, panel_is}
 
 -- a zone that is shown is uncaused where it can have no cause
