@@ -1,5 +1,6 @@
 pub mod Points
 pub mod Runs
+pub mod Queues
 pub mod Moves
 pub mod Groups
 pub mod Places

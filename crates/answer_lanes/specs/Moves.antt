@@ -4,11 +4,10 @@ use Rattle.answer_lanes.specs.Runs.{HoldsItems, all_items}
 use Rattle.answer_lanes.specs.declared.run.Run.{Run}
 
 module _ {S T : Type 0} (item_at : S → ℕ → T) where
-  -- so many items may be moved out of runs in a buffer of this capacity
-  pub record MayMove (count : ℕ) (runs : List (Run S)) (capacity : ℕ) : Type 0 where
+  -- so many items may be moved out of runs
+  pub record MayMove (count : ℕ) (runs : List (Run S)) : Type 0 where
     pub enough : count ≤ length (all_items item_at runs)
     pub held : All HoldsItems runs
-    pub room : length runs ≤ capacity
 
   -- so many items were moved out of the runs, and the others are left
   pub record MovesItems (count : ℕ) (runs moved left : List (Run S)) : Type 0 where

@@ -31,9 +31,10 @@ module _ {S T : Type 0} (item_at : S → ℕ → T) where
   abbrev pub all_items : List (Run S) → List T
   all_items runs = flat_map items_of runs
 
-  -- what a lane keeps of its runs: so many were put and taken, and each of them holds something
+  -- what a lane keeps of its runs: so many items were put and taken, each run holds something, and there is room for
+  -- as many as the lane may hold items
   pub record AreInLane (runs : List (Run S)) (put taken capacity room : ℕ) : Type 0 where
     pub counts : put ≡ taken + length (all_items runs)
     pub few : length (all_items runs) ≤ capacity
     pub held : All HoldsItems runs
-    pub same : room ≡ capacity
+    pub enough : capacity ≤ room

@@ -3,10 +3,10 @@ ghost use Rattle.tick_units.specs.Lane.{HasRoom, after_turn, empty_lane, turn_co
 ghost use Rattle.answer_lanes.specs.Runs.{HoldsItems, HasShortCount, all_items, items_of};
 
 use crate::run::Run;
+use crate::run_queue::RunQueue;
 use crate::several::Several;
 use crate::whole::{Whole, whole_runs};
 use arrayvec::ArrayVec;
-use circular_buffer::HeapCircularBuffer;
 use std::alloc::Global;
 use std::marker::Model;
 use tick_units::NoMemory;
@@ -16,7 +16,7 @@ use tick_units::NoMemory;
 /// the oldest first, with both counts, quota and capacity.
 #[derive(Drop)]
 pub struct Lane<S: Several> {
-    runs: HeapCircularBuffer<Run<S>>,
+    runs: RunQueue<S>,
     quota: usize,
     capacity: usize,
     put: u64,
@@ -26,18 +26,21 @@ pub struct Lane<S: Several> {
 impl<S: Several> Model for Lane<S> {
     ghost use Rattle.tick_units.specs.Lane.{LaneState};
     ghost use Rattle.answer_lanes.specs.Runs.{AreInLane, all_items};
+    ghost use Rattle.answer_lanes.specs.Queues.{queued};
+    ghost use Rattle.std.specs.Prelude.{vec_capacity};
 
     ghost Value = { LaneState S.Item };
 
     ghost view = { λ l. record {
-      items = all_items S.item_at l.runs.items;
+      items = all_items S.item_at (queued l.runs);
       put = l.put;
       taken = l.taken;
       quota = l.quota;
       capacity = l.capacity;
     } };
 
-    ghost invariant = { λ l. AreInLane S.item_at l.runs.items l.put l.taken l.capacity l.runs.capacity };
+    ghost invariant = { λ l. AreInLane S.item_at (queued l.runs) l.put l.taken l.capacity
+        (vec_capacity l.runs.runs) };
 }
 
 impl<S: Several> Lane<S> {
@@ -45,7 +48,7 @@ impl<S: Several> Lane<S> {
     pub fn new(alloc: Global, quota: usize, capacity: usize) -> Result<Lane<S>, NoMemory>
         ensures { IfOk result (λ l. l ≡ empty_lane quota capacity) }
     {
-        let runs = HeapCircularBuffer::with_capacity(alloc, capacity)?;
+        let runs = RunQueue::with_capacity(alloc, capacity)?;
         Ok(Lane {
             runs,
             quota,
@@ -70,7 +73,7 @@ impl<S: Several> Lane<S> {
         ensures { self.new ≡ with_put self.old (items_of S.item_at run) }
     {
         if run.count > 0 {
-            let _room = self.runs.try_push_back(run);
+            self.runs.put(run);
             self.put += run.count as u64;
         }
     }
@@ -97,13 +100,12 @@ impl<S: Several> Lane<S> {
         self.len() <= self.quota
     }
 
-    /// The runs that lie in the lane, the oldest first, in two parts: the room that they lie in may wrap round.
-    pub fn runs(&self) -> (&[Run<S>], &[Run<S>])
-        ensures items { all_items S.item_at result.0.now ++ all_items S.item_at result.1.now
-            ≡ self.now.items }
-        ensures held { All HoldsItems result.0.now × All HoldsItems result.1.now }
+    /// The runs that lie in the lane, the oldest first.
+    pub fn runs(&self) -> &[Run<S>]
+        ensures items { all_items S.item_at result.now ≡ self.now.items }
+        ensures held { All HoldsItems result.now }
     {
-        self.runs.as_slices()
+        self.runs.as_slice()
     }
 
     /// Takes all that lies in the lane out of it, in a turn that looked at its runs.
@@ -112,7 +114,7 @@ impl<S: Several> Lane<S> {
         ensures { self.new ≡ after_turn self.old }
     {
         self.taken = self.put;
-        self.runs.truncate_front(0);
+        self.runs.clear();
     }
 
     /// How many items lie in the lane.
@@ -138,72 +140,64 @@ impl<S: Several> Lane<S> {
     }
 }
 
-ghost use Rattle.std.specs.Prelude.{◌<◌};
-ghost use Rattle.answer_lanes.specs.Runs.{rest_of};
+ghost use Rattle.std.specs.Prelude.{◌<◌, Some, slice_get, vec_capacity};
 ghost use Rattle.answer_lanes.specs.Moves.{AreWhole, MayMove, MovesItems};
+ghost use Rattle.answer_lanes.specs.Queues.{queued};
+ghost use Rattle.answer_lanes.specs.Runs.{rest_of};
 
 // Moves the first items of the runs of a lane into an empty list. The last run that is moved may be parted.
-fn move_runs<S: Several>(
-    runs: &mut HeapCircularBuffer<Run<S>>,
-    into: &mut ArrayVec<Run<S>, 32>,
-    count: u8,
-)
+fn move_runs<S: Several>(runs: &mut RunQueue<S>, into: &mut ArrayVec<Run<S>, 32>, count: u8)
     requires empty { into.old.items ≡ [] }
     requires few { count ≤ 32 }
-    requires may { MayMove S.item_at count runs.old.items runs.old.capacity }
-    ensures moves { MovesItems S.item_at count runs.old.items into.new.items runs.new.items }
-    ensures same { runs.new.capacity ≡ runs.old.capacity }
+    requires may { MayMove S.item_at count (queued runs.old) }
+    ensures moves { MovesItems S.item_at count (queued runs.old) into.new.items (queued runs.new) }
+    ensures same { vec_capacity runs.new.runs ≡ vec_capacity runs.old.runs }
 {
-    // Where the runs wrap round, the second call moves those behind the seam.
-    let before_the_seam = move_whole(runs, into, count);
-    let still = count - before_the_seam.items;
-    if still == 0 {
-        return;
-    }
-    let behind_the_seam = move_whole(runs, into, still);
-    let mut left = still - behind_the_seam.items;
+    let whole = move_whole(runs, into, count);
+    let mut left = count - whole.items;
     while left > 0 {
-        let Some(run) = runs.pop_front() else {
+        let Some(run) = runs.first() else {
             return;
         };
         let front = run.front(left);
         left -= front.count;
         let _room = into.try_push(front);
-        put_back(runs, &run, front.count);
+        cut_first(runs, &run, front.count);
     }
 }
 
-// Puts what is left of a run, of which so many items were taken, back to the front of a lane.
-fn put_back<S: Several>(runs: &mut HeapCircularBuffer<Run<S>>, run: &Run<S>, taken: u8)
+// Takes so many items out of the first run of a lane, and the run with the last of them.
+fn cut_first<S: Several>(runs: &mut RunQueue<S>, run: &Run<S>, taken: u8)
     requires run { HasShortCount run.now }
-    requires room { length runs.old.items < runs.old.capacity }
-    ensures whole { run.now.count ≤ taken → runs.new ≡ runs.old }
+    requires first { slice_get (queued runs.old) 0 ≡ Some run.now }
+    ensures whole { run.now.count ≤ taken → queued runs.new ≡ drop 1 (queued runs.old) }
     ensures parted { taken < run.now.count
-        → runs.new.items ≡ rest_of taken run.now ∷ runs.old.items }
-    ensures same { runs.new.capacity ≡ runs.old.capacity }
+        → queued runs.new ≡ rest_of taken run.now ∷ drop 1 (queued runs.old) }
+    ensures same { vec_capacity runs.new.runs ≡ vec_capacity runs.old.runs }
 {
     if taken < run.count {
-        let _room = runs.try_push_front(run.rest(taken));
+        runs.set_first(run.rest(taken));
+    } else {
+        runs.take(1);
     }
 }
 
-// Moves runs that lie behind one another from the front of a lane behind those in a list, while their items are few
-// enough.
+// Moves runs from the front of a lane behind those in a list, while their items are few enough.
 fn move_whole<S: Several>(
-    runs: &mut HeapCircularBuffer<Run<S>>,
+    runs: &mut RunQueue<S>,
     into: &mut ArrayVec<Run<S>, 32>,
     most: u8,
 ) -> Whole
-    requires held { All HoldsItems runs.old.items }
+    requires held { All HoldsItems (queued runs.old) }
     requires room { length into.old.items + most ≤ 32 }
-    ensures whole { AreWhole S.item_at most runs.old.items result.runs result.items }
-    ensures moved { into.new.items ≡ into.old.items ++ take result.runs runs.old.items }
-    ensures rest { runs.new.items ≡ drop result.runs runs.old.items }
-    ensures same { runs.new.capacity ≡ runs.old.capacity }
+    ensures whole { AreWhole S.item_at most (queued runs.old) result.runs result.items }
+    ensures moved { into.new.items ≡ into.old.items ++ take result.runs (queued runs.old) }
+    ensures rest { queued runs.new ≡ drop result.runs (queued runs.old) }
+    ensures same { vec_capacity runs.new.runs ≡ vec_capacity runs.old.runs }
 {
-    let (front, _) = runs.as_slices();
+    let front = runs.as_slice();
     let whole = whole_runs(front, most);
     let _room = into.try_extend_from_slice(&front[..whole.runs]);
-    runs.truncate_front(runs.len() - whole.runs);
+    runs.take(whole.runs);
     whole
 }

@@ -18,6 +18,7 @@ mod lane;
 mod mask_bits;
 mod place_set;
 mod run;
+mod run_queue;
 mod several;
 mod whole;
 

@@ -1,5 +1,7 @@
 use Rattle.std.proofs.Common.{rules, ◌≤◌, length, ap, arith}
+use Rattle.std.specs.Prelude.{vec_capacity}
 use Rattle.tick_units.specs.Lane.{LaneState}
+use Rattle.answer_lanes.specs.Queues.{queued}
 use Rattle.answer_lanes.specs.Runs.{all_items}
 use Rattle.answer_lanes.proofs.Moving.{may_move}
 use Rattle.answer_lanes.proofs.lane.Lane.take_turn.Goals as goal
@@ -12,14 +14,14 @@ move_runs-requires g c =
     let least = c.min-count.ensures in
     let size = c.len.ensures.length in
     let few = c.requires.few in
-    let enough : c.min-count.result ≤ length (all_items g.S.Several.item_at l.runs.items) = omega (arith, least, size, items) in
+    let enough : c.min-count.result ≤ length (all_items g.S.Several.item_at (queued l.runs)) = omega (arith, least, size, items) in
     let at_most : c.min-count.result ≤ 32 = omega (arith, least, quota, few) in (
       (search rules),
       (
         c.requires.empty,
         (
           at_most,
-          may_move g.S.Several.item_at l.runs.items l.put l.taken l.capacity l.runs.capacity c.min-count.result
+          may_move g.S.Several.item_at (queued l.runs) l.put l.taken l.capacity (vec_capacity l.runs.runs) c.min-count.result
               c.self.invariant enough,
         ),
       ),
