@@ -157,9 +157,7 @@ impl Hold {
         ensures kept { TakesFindings self.old self.new }
         ensures lane { findings.new ≡ after_turn findings.old }
     {
-        let (front, back) = findings.runs();
-        take_runs(&mut self.points, &mut self.zones, front);
-        take_runs(&mut self.points, &mut self.zones, back);
+        take_runs(&mut self.points, &mut self.zones, findings.runs());
         findings.take_all();
     }
 
@@ -251,25 +249,8 @@ fn has_told(faults: &FaultSet, outside: &Outside) -> bool
 
 ghost use Rattle.panel_conditions.specs.Changes.{WatchesPointsMore, WatchesZonesMore, ZonesStaySettled};
 
-// Takes the findings of runs, if there are any.
-fn take_runs(points: &mut Points, zones: &mut Zones, runs: &[Run<FindingGroup>])
-    requires { All HoldsItems runs.now }
-    ensures points { WatchesPointsMore points.old (all_items finding_at runs.now) points.new }
-    ensures zones { WatchesZonesMore zones.old (all_items finding_at runs.now) zones.new }
-    ensures settled { ZonesStaySettled zones.old zones.new }
-    ensures moved { zones.new.moved ≡ zones.old.moved }
-    ensures off { (points.new.off ≡ points.old.off) × (points.new.zone_off ≡ points.old.zone_off) }
-    ensures missing { points.new.changed ≡ false
-        → (points.old.changed ≡ false) × (points.new.missing ≡ points.old.missing) }
-{
-    if runs.len() == 0 {
-        return;
-    }
-    take_each(points, zones, runs);
-}
-
 // Takes the findings of runs, one run after the other.
-fn take_each(points: &mut Points, zones: &mut Zones, runs: &[Run<FindingGroup>])
+fn take_runs(points: &mut Points, zones: &mut Zones, runs: &[Run<FindingGroup>])
     requires { All HoldsItems runs.now }
     ensures points { WatchesPointsMore points.old (all_items finding_at runs.now) points.new }
     ensures zones { WatchesZonesMore zones.old (all_items finding_at runs.now) zones.new }

@@ -1,18 +1,43 @@
-use Rattle.std.proofs.Common.{◌≡◌, ◌++◌, ◌∙◌, [], append-nil, ap, sym, subst}
-use Rattle.std.proofs.lemmas.List.{nil_from_length}
+use Rattle.std.proofs.Common.{◌++◌, ◌∙◌, take, subst}
+use Rattle.std.proofs.lemmas.List.{take_all}
 use Rattle.answer_lanes.specs.Points.{finding_at}
 use Rattle.answer_lanes.specs.Runs.{all_items}
+use Rattle.panel_conditions.specs.Changes.{WatchesPointsMore, WatchesZonesMore}
 use Rattle.panel_conditions.specs.Stands.{WatchesPoints, WatchesZones}
+use Rattle.panel_conditions.proofs.Runs.{run_more}
 use Rattle.panel_conditions.proofs.hold.take_runs.Goals as goal
 
--- no findings are taken
-none_more : (c : goal.Then-runs-eq0) → all_items finding_at c.args.runs.now ≡ []
-none_more c = ap (all_items finding_at) (nil_from_length c.args.runs.now c.if-runs-eq0.true)
+pub loop-run-preserved : goal.loop-run-preserved
+loop-run-preserved c =
+    let l = c.loop-run in
+    let runs = c.args.runs.now in
+    let before = all_items finding_at (take l.run-index runs) in
+    record {
+      points = λ site kept panel done taken h.
+          run_more (λ found. WatchesPoints site kept panel done found c.take_run.new.self) taken runs l.run-index _ c.loop-run-test.true
+          (c.take_run.ensures.watches site kept panel done (taken ++ before) (l.invariant.points site kept panel done taken h));
+      zones = λ site panel done taken h.
+          run_more (λ found. WatchesZones site panel done found c.take_run-in-loop-run.new.self.watches.items) taken runs l.run-index _ c.loop-run-test.true
+          (c.take_run-in-loop-run.ensures.watches site panel done (taken ++ before) (l.invariant.zones site panel done taken h));
+      settled = λ site panel done taken tick h settled.
+          c.take_run-in-loop-run.ensures.settled site panel done (taken ++ before) tick (l.invariant.zones site panel done taken h)
+          (l.invariant.settled site panel done taken tick h settled);
+      moved = c.take_run-in-loop-run.ensures.moved ∙ l.invariant.moved;
+      off = (c.take_run.ensures.off.0 ∙ l.invariant.off.0, c.take_run.ensures.off.1 ∙ l.invariant.off.1);
+      missing = λ same.
+          let now = c.take_run.ensures.missing same in
+          let before = l.invariant.missing now.0 in
+          (before.0, now.1 ∙ before.1);
+    }
 
-pub returns-then-runs-eq0-clause-points : goal.returns-then-runs-eq0-clause-points
-returns-then-runs-eq0-clause-points c site kept panel done taken h =
-    subst (λ l. WatchesPoints site kept panel done l c.args.points.now) (sym (ap (λ l. taken ++ l) (none_more c) ∙ append-nil taken)) h
+pub returns-clause-points : goal.returns-clause-points
+returns-clause-points c =
+    let past = c.loop-run-test.false in
+    subst (λ l. WatchesPointsMore c.args.points.now (all_items finding_at l) c.loop-run.points)
+    (take_all c.loop-run.run-index c.args.runs.now past) c.loop-run.invariant.points
 
-pub returns-then-runs-eq0-clause-zones : goal.returns-then-runs-eq0-clause-zones
-returns-then-runs-eq0-clause-zones c site panel done taken h =
-    subst (λ l. WatchesZones site panel done l c.args.zones.now.watches.items) (sym (ap (λ l. taken ++ l) (none_more c) ∙ append-nil taken)) h
+pub returns-clause-zones : goal.returns-clause-zones
+returns-clause-zones c =
+    let past = c.loop-run-test.false in
+    subst (λ l. WatchesZonesMore c.args.zones.now (all_items finding_at l) c.loop-run.zones)
+    (take_all c.loop-run.run-index c.args.runs.now past) c.loop-run.invariant.zones

@@ -2,7 +2,7 @@ use Rattle.std.proofs.Common.{◌≡◌, false, take}
 use Rattle.answer_lanes.specs.Points.{finding_at}
 use Rattle.answer_lanes.specs.Runs.{all_items}
 use Rattle.panel_conditions.specs.Changes.{WatchesPointsMore, WatchesZonesMore, ZonesStaySettled}
-use Rattle.panel_conditions.proofs.hold.take_each.Given as goal
+use Rattle.panel_conditions.proofs.hold.take_runs.Given as goal
 
 abbrev pub invariant-loop-run : goal.invariant-loop-run
 invariant-loop-run l = record {
