@@ -15,7 +15,7 @@ use Rattle.site_types.specs.Done.{Done, Setting, PointOff, ZoneOff, InTest, is_o
 use Rattle.site_types.proofs.Done.{lt_true, blocked-later, floor-yet}
 use Rattle.coincidence_rules.specs.Counted.{is_alarm, is_counted}
 use Rattle.coincidence_rules.specs.Places.{is_of, is_detector}
-use Rattle.coincidence_rules.specs.Kept.{run_then, run_of, latest_besides, is_type_C, may_pair}
+use Rattle.coincidence_rules.specs.Kept.{run_then, run_of, latest_besides, makes_pairs, may_pair}
 use Rattle.coincidence.specs.declared.point_watch.PointWatch.{PointWatch}
 use Rattle.coincidence.specs.declared.zone_watch.ZoneWatch.{ZoneWatch}
 use Rattle.coincidence.specs.declared.decide.Decide.{Decide}
@@ -106,7 +106,7 @@ module _ (site : Site) (kept : Retained) (done : List Done) (at : Tick) (panel :
       besides_yet zone rule point (if may_pair site kept done zone rule x && not (x.point == point) then Some x.stamp else stamp) xs
       (λ k a is. late (suc k) a is)
       ∙ ap (λ b. latest_besides (may_pair site kept (done_now at panel operation ∷ done) zone rule) point
-      (if (is_of site zone x.point && (b && (is_type_C rule || is_detector site x.point))) && not (x.point == point) then Some x.stamp else stamp)
+      (if (is_of site zone x.point && (b && makes_pairs rule (is_detector site x.point))) && not (x.point == point) then Some x.stamp else stamp)
       xs) (sym (counted_yet x (late 0 x refl)))
 
   module _ (taken : List Answer) (late : (k : ℕ) (a : Answer) → slice_get taken k ≡ Some a → a.stamp.0 ≤ at.0) (before : (setting : Setting)

@@ -10,6 +10,7 @@ pub mod FindingIs
 pub mod TakenAnswer
 pub mod PlainAlarms
 pub mod PlainZones
+pub mod GoingOn
 pub mod Turned
 pub mod PlaceSets
 pub mod Resting

@@ -22,7 +22,7 @@ use Rattle.site_types.specs.Profile.{missing_askings}
 use Rattle.coincidence_rules.specs.Places.{lies_in, is_of, detects, is_detector}
 use Rattle.coincidence_rules.specs.Counted.{is_alarm, is_silent, is_counted}
 use Rattle.coincidence_rules.specs.Missing.{latest_of, begins_silent}
-use Rattle.coincidence_rules.specs.Kept.{run_then, run_of, latest_besides, is_type_C, may_pair}
+use Rattle.coincidence_rules.specs.Kept.{run_then, run_of, latest_besides, makes_pairs, may_pair}
 use Rattle.coincidence_rules.proofs.Lists.{get_either, get_set, same_place}
 use Rattle.coincidence.specs.declared.point_stamp.PointStamp.{PointStamp}
 use Rattle.coincidence.specs.declared.recent.Recent.{Recent}
@@ -216,7 +216,7 @@ module _ {site : Site} {kept : Retained} {panel : ℕ} {done : List Done} {taken
   p = point_noted answer.heard counted floor answer.stamp r
 
   abbrev pairs : Bool
-  pairs = counted && (is_type_C z.rule || not r.manual)
+  pairs = counted && makes_pairs z.rule (not r.manual)
 
   and_left : (a b : Bool) → a ≡ true → b ≡ (a && b)
   and_left true b s = refl
@@ -229,17 +229,17 @@ module _ {site : Site} {kept : Retained} {panel : ℕ} {done : List Done} {taken
       let zone_watch : z ≡ w.zone_watch = zone_watch_read stands answer.point own r z e h in
       let manual : r.manual ≡ w.point.manual = ap (λ (o : PointWatch). o.manual) point ∙ w.watches.manual in
       let rule : z.rule ≡ w.zone.rule = ap (λ (o : ZoneWatch). o.rule) zone_watch ∙ w.watches_zone.rule in
-      ap (λ b. b && (is_type_C z.rule || not r.manual)) c
-      ∙ ap (λ q. is_counted site kept done answer && (is_type_C q || not r.manual)) rule
-      ∙ ap (λ m. is_counted site kept done answer && (is_type_C w.zone.rule || not m)) manual
-      ∙ ap (λ d. is_counted site kept done answer && (is_type_C w.zone.rule || d)) (sym (ap detects w.is_point))
+      ap (λ b. b && makes_pairs z.rule (not r.manual)) c
+      ∙ ap (λ q. is_counted site kept done answer && makes_pairs q (not r.manual)) rule
+      ∙ ap (λ m. is_counted site kept done answer && makes_pairs w.zone.rule (not m)) manual
+      ∙ ap (λ d. is_counted site kept done answer && makes_pairs w.zone.rule d) (sym (ap detects w.is_point))
       ∙ and_left (is_of site w.point.zone answer.point) _ (ap (lies_in w.point.zone) w.is_point ∙ eq-eqb w.point.zone w.point.zone refl)
 
   not_of : (place : ℕ) (zone : ZonePlan) → place ≢ r.zone → false ≡ may_pair site kept done place zone.rule answer
   not_of place zone apart =
       let off : is_of site place answer.point ≡ false =
       ap (lies_in place) w.is_point ∙ ne_eqb w.point.zone place (λ s. apart (sym s ∙ sym (zone_read stands answer.point own r e))) in
-      sym (ap (λ b. b && (is_counted site kept done answer && (is_type_C zone.rule || is_detector site answer.point))) off)
+      sym (ap (λ b. b && (is_counted site kept done answer && makes_pairs zone.rule (is_detector site answer.point))) off)
 
   points_more : counted ≡ is_counted site kept done answer → floor.0 ≡ floor_before site r.zone answer.stamp.0 done
       → (place : ℕ) (watch : PointWatch) (point : PointPlan) → slice_get (set decide.points answer.point p) place ≡ Some watch
@@ -336,7 +336,7 @@ quiet_noted {site} {kept} {panel} {done} {taken} {decide} stands answer may quie
     let noted =
     stands_noted stands answer may q w.zone_watch eq (sym there) counted floor s w.zone_watch false
     (es ∙ sym (ap (λ b. set decide.points answer.point (point_noted answer.heard b floor answer.stamp q)) uncounted))
-    (sym (ap (λ b. b && (is_type_C w.zone_watch.rule || not q.manual)) uncounted)) refl refl refl
+    (sym (ap (λ b. b && makes_pairs w.zone_watch.rule (not q.manual)) uncounted)) refl refl refl
     in
     let items : set decide.zones.items q.zone w.zone_watch ≡ decide.zones.items =
     ap (set decide.zones.items q.zone) (sym there) ∙ set-get_or decide.zones.items q.zone w.zone_watch

@@ -1,6 +1,7 @@
 pub mod Parts
 pub mod Places
 pub mod PlainZones
+pub mod GoingOn
 pub mod Resting
 pub mod Stands
 pub mod Observations

@@ -1,5 +1,5 @@
 -- What the operations done before a tick say of a zone whose alarms that count confirm and release it by themselves.
-use Rattle.std.specs.Prelude.{false, ◌≡◌, ℕ, None, Option, Some, max, slice_get, slice_index_or, ◌||◌}
+use Rattle.std.specs.Prelude.{◌≡◌, ℕ, None, Option, Some, max, slice_get, slice_index_or, ◌||◌}
 use Rattle.tick_units.specs.declared.last_done.LastDone.{LastDone}
 use Rattle.tick_units.specs.LastTicks.{last_at}
 use Rattle.site_types.specs.declared.answer.Answer.{Answer}
@@ -38,9 +38,12 @@ pub record IsOfPoint (answer : Answer) (decide : Decide) (zone : PlainZone) : Ty
   pub known : IsKnown answer.stamp.0 decide zone
   pub own : (watch : PointWatch) → watch ≡ slice_index_or decide.points answer.point watch → zone.zone ≡ watch.zone
 
--- an answer of a detector of which this is said leaves what is kept of its point as it is
+-- the zone of an answer's point is one of which something is known at the answer's tick
+abbrev pub IsInPlainZone : Answer → Decide → Type 0
+IsInPlainZone answer decide = (zone : PlainZone) × IsOfPoint answer decide zone
+
+-- an answer of which this is said leaves what is kept of its point as it is
 pub record RunGoesOn (answer : Answer) (judgement : Judgement) (decide : Decide) : Type 0 where
   pub watch : PointWatch
   pub read : watch ≡ slice_index_or decide.points answer.point watch
   pub stays : StaysNoted answer.heard judgement.counted judgement.floor watch
-  pub detector : watch.manual ≡ false

@@ -25,6 +25,7 @@ mod alarms;
 mod bits;
 mod decide;
 mod gathering;
+mod going_on;
 mod judgement;
 mod observation;
 mod partner_finding;

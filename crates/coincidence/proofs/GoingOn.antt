@@ -1,0 +1,119 @@
+-- Alarms that go on in a plain zone leave all that is kept as it is, and confirm and release that zone.
+use Rattle.std.proofs.Common.{◌≡◌, ℕ, ◌+◌, ◌<◌, ◌≤◌, ◌^◌, ◌==◌, ◌&&◌, ◌||◌, Bool, true, false, not, List, [], ◌∷◌, ◌++◌, Some, length, map, slice_get, get_or, if◌then◌else◌, refl, sym, ◌∙◌, ap, subst, arith}
+use Rattle.std.specs.List.{range_with_len}
+use Rattle.std.proofs.lemmas.List.FromFn.{get_or-map-range_with_len}
+use Rattle.std.proofs.lemmas.Option.{slice_get-get_or}
+use Rattle.site_types.specs.declared.site.Site.{Site}
+use Rattle.site_types.specs.declared.answer.Answer.{Answer}
+use Rattle.site_types.specs.declared.retained.Retained.{Retained}
+use Rattle.site_types.specs.Bits.{has_bit}
+use Rattle.site_types.specs.Done.{Done}
+use Rattle.site_types.proofs.Masks.{has_bit-zero}
+use Rattle.answer_lanes.specs.declared.answer_group.AnswerGroup.{AnswerGroup}
+use Rattle.answer_lanes.specs.declared.run.Run.{Run}
+use Rattle.answer_lanes.specs.Points.{answer_at, mask_if}
+use Rattle.answer_lanes.specs.Runs.{items_of}
+use Rattle.answer_lanes.proofs.Moving.{length_run}
+use Rattle.coincidence_rules.proofs.Lists.{get_left, get_right, get_small}
+use Rattle.coincidence_rules.specs.Counted.{is_alarm, is_silent}
+use Rattle.coincidence_rules.specs.Findings.{finding_of}
+use Rattle.coincidence.specs.declared.decide.Decide.{Decide}
+use Rattle.coincidence.specs.declared.judgement.Judgement.{Judgement}
+use Rattle.coincidence.specs.declared.plain_zone.PlainZone.{PlainZone}
+use Rattle.coincidence.specs.declared.point_watch.PointWatch.{PointWatch}
+use Rattle.coincidence.specs.GoingOn.{ConfirmsAgain, GoesOnIn, telling_of}
+use Rattle.coincidence.specs.Observations.{Judges}
+use Rattle.coincidence.specs.Parts.{switch_at}
+use Rattle.coincidence.specs.PlainZones.{IsKnown, IsOfPoint}
+use Rattle.coincidence.specs.Premises.{MayTake}
+use Rattle.coincidence.specs.Stands.{CanObserve, CanTake, DecidesFor, Fits}
+use Rattle.coincidence.proofs.FindingIs.{HasBit, finding_by}
+use Rattle.coincidence.proofs.PlainAlarms.{plain_alarm_is}
+use Rattle.coincidence.proofs.PlainZones.{gone_on, judged_in, not_silent, point_same, said_of}
+use Rattle.coincidence.proofs.Watched.{fits_next}
+
+-- ---- each answer of a run can be observed
+
+item_there : (run : Run AnswerGroup) (k : ℕ) → k < run.count → slice_get (items_of answer_at run) k ≡ Some (answer_at run.first (run.taken + k))
+item_there run k small =
+    let item = answer_at run.first (run.taken + k) in
+    let count = length_run answer_at run in
+    let within : k < length (items_of answer_at run) = omega (arith, small, count) in
+    slice_get-get_or (items_of answer_at run) k item within
+    ∙ ap Some (get_or-map-range_with_len (answer_at run.first) run.taken run.count k (run.taken + k) item small refl)
+
+fits_among : (site : Site) (kept : Retained) (panel : ℕ) (done : List Done) (taken answers : List Answer) (k : ℕ) (answer : Answer)
+    → MayTake site panel done taken answers → slice_get answers k ≡ Some answer → Fits site panel done taken answer
+fits_among site kept panel done taken answers k answer may there = record {
+  own = may.own k answer there;
+  since = may.since k answer there;
+  late = λ j other at. may.order.rising j (length taken + k) other answer (before j (get_small taken j other at))
+      (get_left taken answers j other at) (get_right taken answers k answer there);
+}
+  where
+    before : (j : ℕ) → j < length taken → j ≤ length taken + k
+    before j less = omega (arith, less)
+
+pub item_observed : (decide : Decide) (run : Run AnswerGroup) (k : ℕ) → k < run.count → CanTake decide (items_of answer_at run)
+    → CanObserve decide (answer_at run.first (run.taken + k))
+item_observed decide run k small can = record {
+  site = can.site;
+  kept = can.kept;
+  panel = can.panel;
+  done = can.done;
+  taken = can.taken;
+  stands = can.stands;
+  may = fits_among can.site can.kept can.panel can.done can.taken (items_of answer_at run) k (answer_at run.first (run.taken + k)) can.may
+      (item_there run k small);
+}
+
+-- ---- an alarm that goes on
+
+none_of : (b : Bool) → false ≡ (if b then false else false)
+none_of true = refl
+none_of false = refl
+
+told_by : (answer : Answer) (zones : ℕ) → is_alarm answer.heard ≡ true → is_silent answer.heard ≡ false
+    → telling_of zones answer ≡ finding_by answer zones zones 0 zones false
+told_by answer zones alarm heard =
+    ap (λ b. finding_by answer (mask_if b zones) (mask_if b zones) 0 (mask_if b zones) (is_silent answer.heard)) alarm
+    ∙ ap (finding_by answer zones zones 0 zones) heard
+
+module _ {site : Site} {kept : Retained} {panel : ℕ} {done : List Done} {taken : List Answer} {decide : Decide} (stands :
+    DecidesFor site kept panel done taken decide) (answer : Answer) (may : MayTake site panel done taken (answer ∷ [])) (zone : PlainZone)
+    (known : IsKnown answer.stamp.0 decide zone) (on : GoesOnIn decide answer zone) where
+  abbrev fits : Fits site panel done taken answer
+  fits = fits_next site kept panel done taken answer may
+
+  abbrev of : IsOfPoint answer decide zone
+  of = record {
+    known = known;
+    own = λ watch read. on.own ∙ ap (λ (w : PointWatch). w.zone) (point_same stands answer fits on.watch on.read watch read);
+  }
+
+  abbrev judgement : Judgement
+  judgement = record { counted = true; floor = zone.floor }
+
+  judges : Judges site kept done answer judgement
+  judges =
+      judged_in stands answer fits on.watch on.read zone of on.alarm (switch_at answer.stamp.0 on.watch.off) true refl (sym (ap not on.counts))
+
+  pub stands_on : DecidesFor site kept panel done (taken ++ answer ∷ []) decide
+  stands_on = gone_on stands answer may judgement judges (record { watch = on.watch; read = on.read; stays = on.stays }) zone of
+
+  pub found_on : (zones : ℕ) → zones < 2 ^ 32 → HasBit zones zone.number true → telling_of zones answer ≡ finding_of site kept panel done taken answer
+  found_on zones below bits =
+      let s = said_of stands answer fits on.watch on.read zone of in
+      let heard = not_silent answer.heard on.alarm in
+      told_by answer zones on.alarm heard
+      ∙ plain_alarm_is stands answer may stands_on on.watch s.watch on.read s.read judgement judges heard s.said.rule s.said.partner zones 0 below
+      (omega arith) (subst (λ n. HasBit zones n true) (sym s.said.number) bits)
+      (λ k small. has_bit-zero k ∙ none_of ((k + 1) == s.watch.number)
+      ∙ ap (λ m. if (k + 1) == s.watch.number then (true && m) else false) (sym on.detector))
+
+pub confirms_again : (decide : Decide) (answer : Answer) (zone : PlainZone) → IsKnown answer.stamp.0 decide zone → GoesOnIn decide answer zone
+    → (zones : ℕ) → zones < 2 ^ 32 → HasBit zones zone.number true → ConfirmsAgain decide answer zones
+confirms_again decide answer zone known on zones below bits = record {
+  taken = λ site kept panel done taken stands may. stands_on stands answer may zone known on;
+  found = λ site kept panel done taken stands may. found_on stands answer may zone known on zones below bits;
+}
