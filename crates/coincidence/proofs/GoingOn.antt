@@ -1,14 +1,18 @@
 -- Alarms that go on in a plain zone leave all that is kept as it is, and confirm and release that zone.
-use Rattle.std.proofs.Common.{◌≡◌, ℕ, ◌+◌, ◌<◌, ◌≤◌, ◌^◌, ◌==◌, ◌&&◌, ◌||◌, Bool, true, false, not, List, [], ◌∷◌, ◌++◌, Some, length, map, slice_get, get_or, if◌then◌else◌, refl, sym, ◌∙◌, ap, subst, arith}
-use Rattle.std.specs.List.{range_with_len}
+use Rattle.std.proofs.Common.{◌≡◌, ◌≢◌, ◌⊎◌, inl, inr, nat_lt, ℕ, ◌+◌, ◌<◌, ◌≤◌, ◌^◌, ◌==◌, ◌&&◌, ◌||◌, Bool, true, false, not, List, [], ◌∷◌, ◌++◌, Some, length, map, slice_get, get_or, if◌then◌else◌, refl, sym, ◌∙◌, ap, subst, arith}
+use Rattle.std.specs.Int.{w8}
+use Rattle.std.proofs.lemmas.Nat.{and_le_l}
 use Rattle.std.proofs.lemmas.List.FromFn.{get_or-map-range_with_len}
 use Rattle.std.proofs.lemmas.Option.{slice_get-get_or}
 use Rattle.site_types.specs.declared.site.Site.{Site}
 use Rattle.site_types.specs.declared.answer.Answer.{Answer}
 use Rattle.site_types.specs.declared.retained.Retained.{Retained}
-use Rattle.site_types.specs.Bits.{has_bit}
+use Rattle.site_types.specs.Bits.{has_bit, with_bit}
 use Rattle.site_types.specs.Done.{Done}
-use Rattle.site_types.proofs.Masks.{has_bit-zero}
+use Rattle.std.proofs.lemmas.Bool.Decides.{eqb_tells}
+use Rattle.site_types.proofs.Done.{lt_tells}
+use Rattle.answer_lanes.proofs.MaskBits.{set_below}
+use Rattle.site_types.proofs.Masks.{has_bit-above, has_bit-zero}
 use Rattle.answer_lanes.specs.declared.answer_group.AnswerGroup.{AnswerGroup}
 use Rattle.answer_lanes.specs.declared.run.Run.{Run}
 use Rattle.answer_lanes.specs.Points.{answer_at, mask_if}
@@ -21,7 +25,7 @@ use Rattle.coincidence.specs.declared.decide.Decide.{Decide}
 use Rattle.coincidence.specs.declared.judgement.Judgement.{Judgement}
 use Rattle.coincidence.specs.declared.plain_zone.PlainZone.{PlainZone}
 use Rattle.coincidence.specs.declared.point_watch.PointWatch.{PointWatch}
-use Rattle.coincidence.specs.GoingOn.{ConfirmsAgain, GoesOnIn, telling_of}
+use Rattle.coincidence.specs.GoingOn.{AllGoOnIn, ConfirmsAgain, GoesOnIn, telling_of}
 use Rattle.coincidence.specs.Observations.{Judges}
 use Rattle.coincidence.specs.Parts.{switch_at}
 use Rattle.coincidence.specs.PlainZones.{IsKnown, IsOfPoint}
@@ -117,3 +121,42 @@ confirms_again decide answer zone known on zones below bits = record {
   taken = λ site kept panel done taken stands may. stands_on stands answer may zone known on;
   found = λ site kept panel done taken stands may. found_on stands answer may zone known on zones below bits;
 }
+
+-- ---- the answers of a run one after the other
+
+-- a byte is smaller where a bit of it was cleared
+pub cleared_smaller : (byte bit rest : ℕ) → rest ≡ with_bit w8 byte bit false → has_bit byte bit ≡ true → has_bit rest bit ≡ false → rest < byte
+cleared_smaller byte bit rest is was cleared =
+    let least : rest ≤ byte = subst (λ n. n ≤ byte) (sym is) (and_le_l byte _) in
+    let apart : rest ≢ byte = λ e. (let at = ap (λ n. has_bit n bit) e in cc) in
+    omega (arith, least, apart)
+
+-- those whose bits are no longer left are found to go on
+pub record AreFoundOn (decide : Decide) (run : Run AnswerGroup) (zone : PlainZone) (bits left : ℕ) : Type 0 where
+  pub found : (k : ℕ) → has_bit bits k ≡ true → has_bit left k ≡ false → GoesOnIn decide (answer_at run.first (run.taken + k)) zone
+  pub among : (k : ℕ) → has_bit left k ≡ true → has_bit bits k ≡ true
+  pub fits : left < 2 ^ 8
+
+pub found_on_none : (decide : Decide) (run : Run AnswerGroup) (zone : PlainZone) (bits : ℕ) → bits < 2 ^ 8 → AreFoundOn decide run zone bits bits
+found_on_none decide run zone bits below = record { found = λ k is no'. absurd (cc); among = λ k is. is; fits = below }
+
+module _ {decide : Decide} {run : Run AnswerGroup} {zone : PlainZone} {bits left : ℕ} (h : AreFoundOn decide run zone bits left) where
+  pub found_on_next : (bit rest : ℕ) → GoesOnIn decide (answer_at run.first (run.taken + bit)) zone → rest < 2 ^ 8
+      → ((k : ℕ) → k < 8 → k ≢ bit → has_bit rest k ≡ has_bit left k) → has_bit rest bit ≡ false → AreFoundOn decide run zone bits rest
+  found_on_next bit rest on below others this = record {
+    found = λ k is gone. by k is gone (eqb_tells k bit);
+    among = λ k is. h.among k (sym (others k (set_below rest k below is) (λ e. (let at = ap (has_bit rest) e in cc))) ∙ is);
+    fits = below;
+  }
+    where
+      by : (k : ℕ) → has_bit bits k ≡ true → has_bit rest k ≡ false → ((k == bit) ≡ true) × (k ≡ bit) ⊎ (((k == bit) ≡ false) × (k ≢ bit))
+          → GoesOnIn decide (answer_at run.first (run.taken + k)) zone
+      by k is gone (inl same) = subst (λ n. GoesOnIn decide (answer_at run.first (run.taken + n)) zone) (sym same.1) on
+      by k is gone (inr other) = under (lt_tells k 8)
+        where
+          under : ((nat_lt k 8 ≡ true) × (k < 8)) ⊎ ((nat_lt k 8 ≡ false) × (8 ≤ k)) → GoesOnIn decide (answer_at run.first (run.taken + k)) zone
+          under (inl less) = h.found k is (sym (others k less.1 other.1) ∙ gone)
+          under (inr above) = h.found k is (has_bit-above 8 left k h.fits above.1)
+
+  pub all_found_on : left ≡ 0 → AllGoOnIn decide run bits zone
+  all_found_on none k small is = h.found k is (ap (λ m. has_bit m k) none ∙ has_bit-zero k)

@@ -1,16 +1,15 @@
 //! Alarms of a run that go on in one plain zone: they change nothing of what is kept, and all mean the same.
 
-ghost use Rattle.std.specs.Prelude.{◌≡◌, ◌+◌, ◌<◌, IfSome, true};
+ghost use Rattle.std.specs.Prelude.{◌≡◌, ◌<◌, IfSome, true};
 ghost use Rattle.answer_lanes.specs.Points.{answer_at};
 ghost use Rattle.answer_lanes.specs.Runs.{items_of};
-ghost use Rattle.site_types.specs.Bits.{has_bit};
 
 use crate::bits::{lowest_bit, one_bit};
 use crate::decide::Decide;
 use crate::plain_zone::PlainZone;
 use crate::rules::is_on;
 use answer_lanes::{AnswerGroup, Run};
-use site_types::{Answer, has_bit_8};
+use site_types::{Answer, with_bit_8};
 
 impl Decide {
     ghost use Rattle.coincidence.specs.GoingOn.{AllGoOnIn, AllConfirmAgain, GoesOnIn};
@@ -39,32 +38,21 @@ impl Decide {
     }
 
     // Whether all answers of a run within a group of eight of which the bits tell go on in a zone of which this is said.
-    fn all_go_on(&self, run: &Run<AnswerGroup>, bits: u8, zone: &PlainZone) -> bool
+    fn all_go_on(&self, run: &Run<AnswerGroup>, changing: u8, zone: &PlainZone) -> bool
         requires within { IsWithinEight run.now }
+        requires tells { TellsChanging self.now run.now changing }
         requires can { CanTake self.now (items_of answer_at run.now) }
-        ensures { result ≡ true → AllGoOnIn self.now run.now bits zone.now }
+        ensures { result ≡ true → AllGoOnIn self.now run.now changing zone.now }
     {
-        for bit in 0..run.count {
-            if !self.goes_on_at(run, bits, bit, zone) {
+        let mut left = changing;
+        while left != 0 {
+            let bit = lowest_bit(left);
+            if !self.goes_on_in(&run.item(run.taken + bit), zone) {
                 return false;
             }
+            left = with_bit_8(left, bit, false);
         }
         true
-    }
-
-    // Whether one answer of a run goes on so, if its bit is set.
-    #[inline(always)]
-    fn goes_on_at(&self, run: &Run<AnswerGroup>, bits: u8, bit: u8, zone: &PlainZone) -> bool
-        requires within { IsWithinEight run.now }
-        requires small { bit < run.now.count }
-        requires can { CanTake self.now (items_of answer_at run.now) }
-        ensures { result ≡ true → has_bit bits bit ≡ true
-            → GoesOnIn self.now (answer_at run.now.first (run.now.taken + bit)) zone.now }
-    {
-        if !has_bit_8(bits, bit) {
-            return true;
-        }
-        self.goes_on_in(&run.item(run.taken + bit), zone)
     }
 
     // Whether an answer is an alarm of a detector in a zone of which this is said, counts, and leaves what is kept of its
