@@ -24,6 +24,9 @@ use Rattle.tick_units.specs.LastTicks.{last_if}
 use Rattle.coincidence.specs.Stands.{resets, moves, set_in, TellsSetting, WatchesPoint, WatchesZone, IsOwnZone, DecidesFor}
 use Rattle.coincidence_rules.proofs.LastDone.{told_last}
 use Rattle.coincidence_rules.specs.Applied.{NoneIn, TellsLast}
+use Rattle.answer_lanes.specs.declared.place_set.PlaceSet.{PlaceSet}
+use Rattle.answer_lanes.specs.Places.{HasNone}
+use Rattle.coincidence.proofs.Marked.{none_going}
 use Rattle.coincidence.specs.Premises.{IsOwn, MayApply}
 use Rattle.coincidence.proofs.Watched.{read_is, watched, watched_zone}
 
@@ -145,11 +148,13 @@ pub record IsAfter (at : Tick) (panel : ℕ) (operation : Operation) (old next :
   pub zones : (place : ℕ) (watch : ZoneWatch) → slice_get next.zones.items place ≡ Some watch
       → (was : ZoneWatch) × (slice_get old.zones.items place ≡ Some was) × (watch ≡ zone_then at panel operation place was)
   pub reset : next.reset ≡ last_if (resets panel (done_now at panel operation)) at old.reset
+  pub going_on : next.going_on ≡ old.going_on
 
 pub stands_after : (site : Site) (kept : Retained) (panel : ℕ) (done : List Done) (taken : List Answer) (old next : Decide) (at : Tick) (operation :
     Operation) → DecidesFor site kept panel done taken old → MayApply site panel done taken operation at.0
-    → IsAfter at panel operation old next → DecidesFor site kept panel (done_now at panel operation ∷ done) taken next
-stands_after site kept panel done taken old next at operation stands may after =
+    → HasNone old.going_on → IsAfter at panel operation old next
+    → DecidesFor site kept panel (done_now at panel operation ∷ done) taken next
+stands_after site kept panel done taken old next at operation stands may none after =
     let before = λ (setting : Setting) (e : is_on setting (done_now at panel operation) ≡ true).
     set_before at.0 setting done may.next.from_one may.next.since (may.next.once setting e) in
     record {
@@ -170,6 +175,11 @@ stands_after site kept panel done taken old next at operation stands may after =
       reset =
           subst (TellsLast (resets panel) (done_now at panel operation ∷ done)) (sym after.reset)
           (told_last (resets panel) (done_now at panel operation) done at old.reset _ refl refl may.next.since stands.reset);
+      going_on =
+          let points = after.point_count in
+          let places = ap (λ (o : PlaceSet). length o.bytes.items) after.going_on in
+          let room = stands.going_on.room in
+          none_going next.going_on (omega (arith, points, places, room)) (subst HasNone (sym after.going_on) none);
       order = stands.order;
       own = stands.own;
     }

@@ -126,6 +126,7 @@ module _ (site : Site) (kept : Retained) (panel : ℕ) (done : List Done) (d : D
           recent = λ point. w.recent point ∙ besides_same h.wired.zoned place zone.rule point None taken h.own;
         };
     reset = last_same done d (resets panel) decide.reset reset_not h.reset;
+    going_on = h.going_on;
     order = h.order;
     own = h.own;
   }

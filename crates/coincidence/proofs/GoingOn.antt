@@ -1,5 +1,5 @@
 -- Alarms that go on in a plain zone leave all that is kept as it is, and confirm and release that zone.
-use Rattle.std.proofs.Common.{◌≡◌, ◌≢◌, ◌⊎◌, inl, inr, nat_lt, ℕ, ◌+◌, ◌<◌, ◌≤◌, ◌^◌, ◌==◌, ◌&&◌, ◌||◌, Bool, true, false, not, List, [], ◌∷◌, ◌++◌, Some, length, map, slice_get, get_or, if◌then◌else◌, refl, sym, ◌∙◌, ap, subst, arith}
+use Rattle.std.proofs.Common.{◌≡◌, ◌≢◌, ◌⊎◌, inl, inr, nat_lt, ℕ, ◌+◌, ◌<◌, ◌≤◌, ◌^◌, ◌==◌, ◌&&◌, ◌||◌, Bool, true, false, not, List, [], ◌∷◌, ◌++◌, Some, length, map, max, min, slice_get, get_or, if◌then◌else◌, refl, sym, ◌∙◌, ap, subst, arith}
 use Rattle.std.specs.Int.{w8}
 use Rattle.std.proofs.lemmas.Nat.{and_le_l}
 use Rattle.std.proofs.lemmas.List.FromFn.{get_or-map-range_with_len}
@@ -18,23 +18,27 @@ use Rattle.answer_lanes.specs.declared.run.Run.{Run}
 use Rattle.answer_lanes.specs.Points.{answer_at, mask_if}
 use Rattle.answer_lanes.specs.Runs.{items_of}
 use Rattle.answer_lanes.proofs.Moving.{length_run}
-use Rattle.coincidence_rules.proofs.Lists.{get_left, get_right, get_small}
+use Rattle.coincidence_rules.proofs.Lists.{get_left, get_right, get_small, same_place}
 use Rattle.coincidence_rules.specs.Counted.{is_alarm, is_silent}
 use Rattle.coincidence_rules.specs.Findings.{finding_of}
 use Rattle.coincidence.specs.declared.decide.Decide.{Decide}
 use Rattle.coincidence.specs.declared.judgement.Judgement.{Judgement}
 use Rattle.coincidence.specs.declared.plain_zone.PlainZone.{PlainZone}
 use Rattle.coincidence.specs.declared.point_watch.PointWatch.{PointWatch}
-use Rattle.coincidence.specs.GoingOn.{AllGoOnIn, ConfirmsAgain, GoesOnIn, telling_of}
+use Rattle.coincidence.specs.GoingOn.{AllGoOnAgain, ConfirmsAgain, GoesOnAgain, telling_of}
+use Rattle.coincidence.specs.Places.{GoesOnFrom}
+use Rattle.tick_units.specs.LastTicks.{last_at}
+use Rattle.coincidence.specs.declared.zone_watch.ZoneWatch.{ZoneWatch}
 use Rattle.coincidence.specs.Observations.{Judges}
-use Rattle.coincidence.specs.Parts.{switch_at}
-use Rattle.coincidence.specs.PlainZones.{IsKnown, IsOfPoint}
+use Rattle.coincidence.specs.Parts.{StaysNoted, switch_at}
+use Rattle.coincidence.specs.PlainZones.{IsKnown, IsOfPoint, IsSaidAt}
 use Rattle.coincidence.specs.Premises.{MayTake}
+use Rattle.coincidence.specs.Resting.{IsWithinEight}
 use Rattle.coincidence.specs.Stands.{CanObserve, CanTake, DecidesFor, Fits}
 use Rattle.coincidence.proofs.FindingIs.{HasBit, finding_by}
 use Rattle.coincidence.proofs.PlainAlarms.{plain_alarm_is}
-use Rattle.coincidence.proofs.PlainZones.{gone_on, judged_in, not_silent, point_same, said_of}
-use Rattle.coincidence.proofs.Watched.{fits_next}
+use Rattle.coincidence.proofs.PlainZones.{gone_on, judged_in, not_silent, point_same, said_of, zone_there}
+use Rattle.coincidence.proofs.Watched.{fits_next, read_is, watched}
 
 -- ---- each answer of a run can be observed
 
@@ -58,6 +62,15 @@ fits_among site kept panel done taken answers k answer may there = record {
     before : (j : ℕ) → j < length taken → j ≤ length taken + k
     before j less = omega (arith, less)
 
+-- the point of an answer of a run within a group of eight
+pub point_of : (run : Run AnswerGroup) (k : ℕ) → IsWithinEight run → k < run.count
+    → (answer_at run.first (run.taken + k)).point ≡ run.first.point + (run.taken + k)
+point_of run k within small =
+    let places = within.places in
+    let points = within.points in
+    let here : min (run.first.point + (run.taken + k)) 65535 ≡ run.first.point + (run.taken + k) = omega (arith, places, points, small) in
+    here
+
 pub item_observed : (decide : Decide) (run : Run AnswerGroup) (k : ℕ) → k < run.count → CanTake decide (items_of answer_at run)
     → CanObserve decide (answer_at run.first (run.taken + k))
 item_observed decide run k small can = record {
@@ -72,6 +85,16 @@ item_observed decide run k small can = record {
 }
 
 -- ---- an alarm that goes on
+
+-- it is of a detector in a zone of which this is said; it counts, and leaves what is kept of its point as it is
+pub record GoesOnIn (decide : Decide) (answer : Answer) (zone : PlainZone) : Type 0 where
+  pub alarm : is_alarm answer.heard ≡ true
+  pub watch : PointWatch
+  pub read : watch ≡ get_or decide.points answer.point watch
+  pub own : zone.zone ≡ watch.zone
+  pub detector : watch.manual ≡ false
+  pub counts : (switch_at answer.stamp.0 watch.off || zone.blocked) ≡ false
+  pub stays : StaysNoted answer.heard true zone.floor watch
 
 none_of : (b : Bool) → false ≡ (if b then false else false)
 none_of true = refl
@@ -115,11 +138,68 @@ module _ {site : Site} {kept : Retained} {panel : ℕ} {done : List Done} {taken
       (λ k small. has_bit-zero k ∙ none_of ((k + 1) == s.watch.number)
       ∙ ap (λ m. if (k + 1) == s.watch.number then (true && m) else false) (sym on.detector))
 
-pub confirms_again : (decide : Decide) (answer : Answer) (zone : PlainZone) → IsKnown answer.stamp.0 decide zone → GoesOnIn decide answer zone
-    → (zones : ℕ) → zones < 2 ^ 32 → HasBit zones zone.number true → ConfirmsAgain decide answer zones
-confirms_again decide answer zone known on zones below bits = record {
-  taken = λ site kept panel done taken stands may. stands_on stands answer may zone known on;
-  found = λ site kept panel done taken stands may. found_on stands answer may zone known on zones below bits;
+-- ---- one of a point of which it is known that its alarms go on
+
+module _ {site : Site} {kept : Retained} {panel : ℕ} {done : List Done} {taken : List Answer} {decide : Decide} (stands :
+    DecidesFor site kept panel done taken decide) (answer : Answer) (may : MayTake site panel done taken (answer ∷ [])) (zone : ℕ)
+    (on : GoesOnAgain decide answer zone) where
+  abbrev next_fits : Fits site panel done taken answer
+  next_fits = fits_next site kept panel done taken answer may
+
+  abbrev kept_zone : ZoneWatch
+  kept_zone = (watched stands answer.point next_fits.own).zone_watch
+
+  zone_at : slice_get decide.zones.items on.watch.zone ≡ Some kept_zone
+  zone_at = zone_there stands answer next_fits on.watch on.read
+
+  point_at : slice_get decide.points answer.point ≡ Some on.watch
+  point_at =
+      let w = watched stands answer.point next_fits.own in
+      w.is_watch ∙ ap Some (sym (read_is decide.points answer.point on.watch w.watch on.read w.is_watch))
+
+  abbrev said_zone : PlainZone
+  said_zone = record {
+    zone = on.watch.zone;
+    number = kept_zone.number;
+    blocked = switch_at answer.stamp.0 kept_zone.off || switch_at answer.stamp.0 kept_zone.test;
+    floor = record { 0 = max (last_at answer.stamp.0 decide.reset) (last_at answer.stamp.0 kept_zone.moved) };
+    settled = false;
+  }
+
+  from : GoesOnFrom decide.since.0 decide.reset on.watch kept_zone
+  from = stands.going_on.all answer.point on.watch kept_zone on.has point_at zone_at
+
+  said_known : IsKnown answer.stamp.0 decide said_zone
+  said_known watch at =
+      subst (IsSaidAt answer.stamp.0 decide.reset said_zone)
+      (same_place decide.zones.items on.watch.zone on.watch.zone kept_zone watch refl zone_at at)
+      (record { rule = from.rule; partner = from.partner; number = refl; blocked = refl; floor = refl; settled = λ is. absurd (cc) })
+
+  goes_in : GoesOnIn decide answer said_zone
+  goes_in = record {
+    alarm = ap is_alarm on.alarm;
+    watch = on.watch;
+    read = on.read;
+    own = refl;
+    detector = from.detector;
+    counts = from.counts answer.stamp.0 on.since;
+    stays = subst (λ h. StaysNoted h true said_zone.floor on.watch) (sym on.alarm) (from.stays answer.stamp.0 said_zone.floor on.since refl);
+  }
+
+  pub stands_again : DecidesFor site kept panel done (taken ++ answer ∷ []) decide
+  stands_again = stands_on stands answer may said_zone said_known goes_in
+
+  pub found_again : (z : ZoneWatch) → z ≡ get_or decide.zones.items zone z → (zones : ℕ) → zones < 2 ^ 32 → HasBit zones z.number true
+      → telling_of zones answer ≡ finding_of site kept panel done taken answer
+  found_again z read zones below bits =
+      let same : z ≡ kept_zone = read_is decide.zones.items zone z kept_zone read (ap (slice_get decide.zones.items) on.own ∙ zone_at) in
+      found_on stands answer may said_zone said_known goes_in zones below (subst (λ (w : ZoneWatch). HasBit zones w.number true) same bits)
+
+pub confirms_again : (decide : Decide) (answer : Answer) (zone : ℕ) → GoesOnAgain decide answer zone → (z : ZoneWatch)
+    → z ≡ get_or decide.zones.items zone z → (zones : ℕ) → zones < 2 ^ 32 → HasBit zones z.number true → ConfirmsAgain decide answer zones
+confirms_again decide answer zone on z read zones below bits = record {
+  taken = λ site kept panel done taken stands may. stands_again stands answer may zone on;
+  found = λ site kept panel done taken stands may. found_again stands answer may zone on z read zones below bits;
 }
 
 -- ---- the answers of a run one after the other
@@ -132,16 +212,16 @@ cleared_smaller byte bit rest is was cleared =
     omega (arith, least, apart)
 
 -- those whose bits are no longer left are found to go on
-pub record AreFoundOn (decide : Decide) (run : Run AnswerGroup) (zone : PlainZone) (bits left : ℕ) : Type 0 where
-  pub found : (k : ℕ) → has_bit bits k ≡ true → has_bit left k ≡ false → GoesOnIn decide (answer_at run.first (run.taken + k)) zone
+pub record AreFoundOn (decide : Decide) (run : Run AnswerGroup) (zone : ℕ) (bits left : ℕ) : Type 0 where
+  pub found : (k : ℕ) → has_bit bits k ≡ true → has_bit left k ≡ false → GoesOnAgain decide (answer_at run.first (run.taken + k)) zone
   pub among : (k : ℕ) → has_bit left k ≡ true → has_bit bits k ≡ true
   pub fits : left < 2 ^ 8
 
-pub found_on_none : (decide : Decide) (run : Run AnswerGroup) (zone : PlainZone) (bits : ℕ) → bits < 2 ^ 8 → AreFoundOn decide run zone bits bits
+pub found_on_none : (decide : Decide) (run : Run AnswerGroup) (zone : ℕ) (bits : ℕ) → bits < 2 ^ 8 → AreFoundOn decide run zone bits bits
 found_on_none decide run zone bits below = record { found = λ k is no'. absurd (cc); among = λ k is. is; fits = below }
 
-module _ {decide : Decide} {run : Run AnswerGroup} {zone : PlainZone} {bits left : ℕ} (h : AreFoundOn decide run zone bits left) where
-  pub found_on_next : (bit rest : ℕ) → GoesOnIn decide (answer_at run.first (run.taken + bit)) zone → rest < 2 ^ 8
+module _ {decide : Decide} {run : Run AnswerGroup} {zone : ℕ} {bits left : ℕ} (h : AreFoundOn decide run zone bits left) where
+  pub found_on_next : (bit rest : ℕ) → GoesOnAgain decide (answer_at run.first (run.taken + bit)) zone → rest < 2 ^ 8
       → ((k : ℕ) → k < 8 → k ≢ bit → has_bit rest k ≡ has_bit left k) → has_bit rest bit ≡ false → AreFoundOn decide run zone bits rest
   found_on_next bit rest on below others this = record {
     found = λ k is gone. by k is gone (eqb_tells k bit);
@@ -150,13 +230,13 @@ module _ {decide : Decide} {run : Run AnswerGroup} {zone : PlainZone} {bits left
   }
     where
       by : (k : ℕ) → has_bit bits k ≡ true → has_bit rest k ≡ false → ((k == bit) ≡ true) × (k ≡ bit) ⊎ (((k == bit) ≡ false) × (k ≢ bit))
-          → GoesOnIn decide (answer_at run.first (run.taken + k)) zone
-      by k is gone (inl same) = subst (λ n. GoesOnIn decide (answer_at run.first (run.taken + n)) zone) (sym same.1) on
+          → GoesOnAgain decide (answer_at run.first (run.taken + k)) zone
+      by k is gone (inl same) = subst (λ n. GoesOnAgain decide (answer_at run.first (run.taken + n)) zone) (sym same.1) on
       by k is gone (inr other) = under (lt_tells k 8)
         where
-          under : ((nat_lt k 8 ≡ true) × (k < 8)) ⊎ ((nat_lt k 8 ≡ false) × (8 ≤ k)) → GoesOnIn decide (answer_at run.first (run.taken + k)) zone
+          under : ((nat_lt k 8 ≡ true) × (k < 8)) ⊎ ((nat_lt k 8 ≡ false) × (8 ≤ k)) → GoesOnAgain decide (answer_at run.first (run.taken + k)) zone
           under (inl less) = h.found k is (sym (others k less.1 other.1) ∙ gone)
           under (inr above) = h.found k is (has_bit-above 8 left k h.fits above.1)
 
-  pub all_found_on : left ≡ 0 → AllGoOnIn decide run bits zone
+  pub all_found_on : left ≡ 0 → AllGoOnAgain decide run bits zone
   all_found_on none k small is = h.found k is (ap (λ m. has_bit m k) none ∙ has_bit-zero k)

@@ -20,6 +20,9 @@ use Rattle.coincidence.specs.declared.zone_watch.ZoneWatch.{ZoneWatch}
 use Rattle.coincidence.specs.Observations.{Judges}
 use Rattle.std.proofs.lemmas.List.{set-get_or}
 use Rattle.coincidence_rules.specs.Kept.{makes_pairs}
+use Rattle.answer_lanes.specs.declared.place_set.PlaceSet.{PlaceSet}
+use Rattle.coincidence.specs.GoingOn.{MarksGoingOn}
+use Rattle.coincidence.specs.Places.{HasGoingOn}
 use Rattle.coincidence.specs.Premises.{MayTake}
 use Rattle.coincidence.specs.Parts.{point_noted, switch_at, zone_noted}
 use Rattle.coincidence.specs.PlainZones.{RunGoesOn, IsOfPoint, IsSaidAt, KeepsKnown}
@@ -37,13 +40,20 @@ noted_same : (x : ℕ) (reset : LastDone) (zone : PlainZone) (pairs : Bool) (poi
     → IsSaidAt x reset zone watch → IsSaidAt x reset zone (zone_noted pairs point stamp watch)
 noted_same x reset zone false point stamp watch h = h
 noted_same x reset zone true point stamp watch h =
-    record { rule = h.rule; partner = h.partner; number = h.number; blocked = h.blocked; floor = h.floor }
+    record {
+      rule = h.rule;
+      partner = h.partner;
+      number = h.number;
+      blocked = h.blocked;
+      floor = h.floor;
+      settled = λ is. let s = h.settled is in record { last_reset = s.last_reset; moved = s.moved; off = s.off; test = s.test };
+    }
 
 -- what is said of any zone stays so where an answer of a point in a zone is noted
-pub keeps_known : (decide : Decide) (next : List PointWatch) (place : ℕ) (pairs : Bool) (point : ℕ) (stamp : Tick) (z y : ZoneWatch)
+pub keeps_known : (decide : Decide) (next : List PointWatch) (g : PlaceSet) (place : ℕ) (pairs : Bool) (point : ℕ) (stamp : Tick) (z y : ZoneWatch)
     → slice_get decide.zones.items place ≡ Some z → y ≡ zone_noted pairs point stamp z
-    → KeepsKnown decide (record decide { points = next; zones = with_item decide.zones place y })
-keeps_known decide next place pairs point stamp z y there noted x zone h watch at =
+    → KeepsKnown decide (record decide { points = next; zones = with_item decide.zones place y; going_on = g })
+keeps_known decide next g place pairs point stamp z y there noted x zone h watch at =
     ⊎_elim
     (λ here.
     subst (IsSaidAt x decide.reset zone) (sym noted ∙ here.1)
@@ -128,12 +138,13 @@ gone_on {site} {kept} {panel} {done} {taken} {decide} stands answer may judgemen
     let same : decide.points ≡ set decide.points answer.point (point_noted answer.heard judgement.counted judgement.floor answer.stamp on.watch) =
     sym (set-get_or decide.points answer.point on.watch) ∙ ap (set decide.points answer.point) (sym on.read)
     ∙ ap (set decide.points answer.point) (sym (on.stays answer.stamp)) in
-    let noted =
-    stands_noted stands answer may on.watch s.watch on.read s.read judgement.counted judgement.floor decide.points s.watch false same
-    (no_pair judgement.counted (not on.watch.manual) s.watch.rule s.said.rule) refl judges.counted
-    (floor_judged stands answer fits on.watch on.read judgement judges) in
     let items : set decide.zones.items on.watch.zone s.watch ≡ decide.zones.items =
     ap (set decide.zones.items on.watch.zone) s.read ∙ set-get_or decide.zones.items on.watch.zone s.watch in
+    let noted =
+    stands_noted stands answer may on.watch s.watch on.read s.read judgement.counted judgement.floor decide.points s.watch false decide.going_on
+    (subst (HasGoingOn decide.going_on decide.since.0 decide.reset decide.points) (sym items) stands.going_on) same
+    (no_pair judgement.counted (not on.watch.manual) s.watch.rule s.said.rule) refl judges.counted
+    (floor_judged stands answer fits on.watch on.read judgement judges) in
     record {
       wired = noted.wired;
       at = noted.at;
@@ -142,6 +153,13 @@ gone_on {site} {kept} {panel} {done} {taken} {decide} stands answer may judgemen
       points = noted.points;
       zones = λ place watch zone is. noted.zones place watch zone (ap (λ xs. slice_get xs place) items ∙ is);
       reset = noted.reset;
+      going_on = stands.going_on;
       order = noted.order;
       own = noted.own;
     }
+
+-- what is known of a zone stays so where no more than the points whose alarms go on is kept anew
+pub known_marked : (old decide : Decide) → MarksGoingOn old decide → KeepsKnown old decide
+known_marked old decide marks x zone known watch at =
+    subst (λ reset. IsSaidAt x reset zone watch) (sym marks.reset)
+    (known watch (ap (λ zones. slice_get zones zone.zone) (sym marks.zones) ∙ at))

@@ -88,7 +88,7 @@ module _ {site : Site} {kept : Retained} {panel : ℕ} {done : List Done} {taken
   pub stands_at_rest : DecidesFor site kept panel done (taken ++ answer ∷ []) decide
   stands_at_rest =
       quiet_noted stands answer may (no_alarm_left answer.heard w.watch left) w.watch decide.points read
-      (sym same_points ∙ ap (set decide.points answer.point) (same_watch answer.heard answer.stamp w.watch left))
+      (sym same_points ∙ ap (set decide.points answer.point) (same_watch answer.heard answer.stamp w.watch left)) decide.going_on stands.going_on
 
   pub found_at_rest : plain_of answer ≡ finding_of site kept panel done taken answer
   found_at_rest =

@@ -31,6 +31,8 @@ use Rattle.coincidence.specs.declared.zone_watch.ZoneWatch.{ZoneWatch}
 use Rattle.coincidence.specs.declared.decide.Decide.{Decide}
 use Rattle.coincidence.specs.Parts.{stamp_of, besides_by, besides, other_after, noted, silent_then, point_noted, zone_noted}
 use Rattle.coincidence.specs.Changes.{NotesPoint}
+use Rattle.answer_lanes.specs.declared.place_set.PlaceSet.{PlaceSet}
+use Rattle.coincidence.specs.Places.{HasGoingOn}
 use Rattle.coincidence.specs.Stands.{WatchesPoint, WatchesZone, DecidesFor}
 use Rattle.coincidence.specs.Premises.{IsOwn, MayTake}
 use Rattle.coincidence.proofs.Watched.{read_is, Watched, watched, zone_read, zone_watch_read}
@@ -280,13 +282,16 @@ module _ {site : Site} {kept : Retained} {panel : ℕ} {done : List Done} {taken
   own_more : (k : ℕ) (a : Answer) → slice_get (taken ++ answer ∷ []) k ≡ Some a → IsOwn site panel a.point
   own_more k a at = ⊎_elim (λ before. stands.own k a before) (λ last. may.own last.0 a last.2) (get_either taken (answer ∷ []) k a at)
 
-  pub stands_more : counted ≡ is_counted site kept done answer → floor.0 ≡ floor_before site r.zone answer.stamp.0 done
+  pub stands_more : (g : PlaceSet) → HasGoingOn g decide.since.0 decide.reset (set decide.points answer.point p)
+      (set decide.zones.items r.zone (zone_noted pairs answer.point answer.stamp z))
+      → counted ≡ is_counted site kept done answer → floor.0 ≡ floor_before site r.zone answer.stamp.0 done
       → DecidesFor site kept panel done (taken ++ answer ∷ []) (record decide {
         points = set decide.points answer.point p;
         zones =
             with_item decide.zones r.zone (zone_noted pairs answer.point answer.stamp z);
+        going_on = g;
       })
-  stands_more c f = record {
+  stands_more g going c f = record {
     wired = stands.wired;
     at = stands.at;
     point_count = length-set decide.points answer.point p ∙ stands.point_count;
@@ -294,19 +299,24 @@ module _ {site : Site} {kept : Retained} {panel : ℕ} {done : List Done} {taken
     points = points_more c f;
     zones = zones_more c;
     reset = stands.reset;
+    going_on = going;
     order = may.order;
     own = own_more;
   }
 
   -- by what the code's calls say of the new values
-  pub stands_noted : (next : List PointWatch) (y : ZoneWatch) (b : Bool) → next ≡ set decide.points answer.point p → b ≡ pairs
+  pub stands_noted : (next : List PointWatch) (y : ZoneWatch) (b : Bool) (g : PlaceSet)
+      → HasGoingOn g decide.since.0 decide.reset next (set decide.zones.items r.zone y) → next ≡ set decide.points answer.point p → b ≡ pairs
       → y ≡ zone_noted b answer.point answer.stamp z
       → counted ≡ is_counted site kept done answer → floor.0 ≡ floor_before site r.zone answer.stamp.0 done
-      → DecidesFor site kept panel done (taken ++ answer ∷ []) (record decide { points = next; zones = with_item decide.zones r.zone y })
-  stands_noted next y b es eb ey c f =
+      → DecidesFor site kept panel done (taken ++ answer ∷ []) (record decide { points = next; zones = with_item decide.zones r.zone y; going_on = g })
+  stands_noted next y b g going es eb ey c f =
       subst (λ (o : List PointWatch × ZoneWatch). DecidesFor site kept panel done (taken ++ answer ∷ [])
-      (record decide { points = o.0; zones = with_item decide.zones r.zone o.1 }))
-      (both (sym es) (sym (ey ∙ ap (λ t. zone_noted t answer.point answer.stamp z) eb))) (stands_more c f)
+      (record decide { points = o.0; zones = with_item decide.zones r.zone o.1; going_on = g }))
+      (both (sym es) (sym (ey ∙ ap (λ t. zone_noted t answer.point answer.stamp z) eb)))
+      (stands_more g
+      (subst (λ (o : List PointWatch × ZoneWatch). HasGoingOn g decide.since.0 decide.reset o.0 (set decide.zones.items r.zone o.1))
+      (both es (ey ∙ ap (λ t. zone_noted t answer.point answer.stamp z) eb)) going) c f)
     where
       both : {q w : List PointWatch} {t u : ZoneWatch} → q ≡ w → t ≡ u → ◌≡◌ {A = List PointWatch × ZoneWatch} (q, t) (w, u)
       both e f = cc
@@ -315,15 +325,17 @@ module _ {site : Site} {kept : Retained} {panel : ℕ} {done : List Done} {taken
 pub quiet_noted : {site : Site} {kept : Retained} {panel : ℕ} {done : List Done} {taken : List Answer} {decide : Decide} (stands :
     DecidesFor site kept panel done taken decide) (answer : Answer) → MayTake site panel done taken (answer ∷ []) →
     is_alarm answer.heard ≡ false → (q : PointWatch) (s : List PointWatch) → q ≡ get_or decide.points answer.point q
-    → s ≡ set decide.points answer.point (point_noted answer.heard false (record { 0 = 0 }) answer.stamp q) →
-    DecidesFor site kept panel done (taken ++ answer ∷ []) (record {
+    → s ≡ set decide.points answer.point (point_noted answer.heard false (record { 0 = 0 }) answer.stamp q) → (g : PlaceSet)
+    → HasGoingOn g decide.since.0 decide.reset s decide.zones.items → DecidesFor site kept panel done (taken ++ answer ∷ []) (record {
       panel = decide.panel;
       points = s;
       zones =
           decide.zones;
       reset = decide.reset;
+      going_on = g;
+      since = decide.since;
     })
-quiet_noted {site} {kept} {panel} {done} {taken} {decide} stands answer may quiet q s eq es =
+quiet_noted {site} {kept} {panel} {done} {taken} {decide} stands answer may quiet q s eq es g going =
     let own = may.own 0 answer refl in
     let w = watched stands answer.point own in
     let counted = is_counted site kept done answer in
@@ -333,13 +345,14 @@ quiet_noted {site} {kept} {panel} {done} {taken} {decide} stands answer may quie
     ap (λ k. get_or decide.zones.items k w.zone_watch) (zone_read stands answer.point own q eq) ∙ get_or_from_slice_get decide.zones.items w.point.zone
     w.zone_watch w.zone_watch w.is_zone_watch
     in
-    let noted =
-    stands_noted stands answer may q w.zone_watch eq (sym there) counted floor s w.zone_watch false
-    (es ∙ sym (ap (λ b. set decide.points answer.point (point_noted answer.heard b floor answer.stamp q)) uncounted))
-    (sym (ap (λ b. b && makes_pairs w.zone_watch.rule (not q.manual)) uncounted)) refl refl refl
-    in
     let items : set decide.zones.items q.zone w.zone_watch ≡ decide.zones.items =
     ap (set decide.zones.items q.zone) (sym there) ∙ set-get_or decide.zones.items q.zone w.zone_watch
+    in
+    let noted =
+    stands_noted stands answer may q w.zone_watch eq (sym there) counted floor s w.zone_watch false g
+    (subst (HasGoingOn g decide.since.0 decide.reset s) (sym items) going)
+    (es ∙ sym (ap (λ b. set decide.points answer.point (point_noted answer.heard b floor answer.stamp q)) uncounted))
+    (sym (ap (λ b. b && makes_pairs w.zone_watch.rule (not q.manual)) uncounted)) refl refl refl
     in
     record {
       wired = noted.wired;
@@ -349,6 +362,7 @@ quiet_noted {site} {kept} {panel} {done} {taken} {decide} stands answer may quie
       points = noted.points;
       zones = λ place watch zone is. noted.zones place watch zone (ap (λ xs. slice_get xs place) items ∙ is);
       reset = noted.reset;
+      going_on = going;
       order = noted.order;
       own = noted.own;
     }

@@ -1,5 +1,10 @@
--- Alarms that go on in a plain zone: each of them counts, and changes nothing of what is kept.
-use Rattle.std.specs.Prelude.{◌≡◌, [], ◌∷◌, ◌+◌, ◌<◌, ◌||◌, ℕ, false, slice_index_or, true}
+-- Alarms that go on in a plain zone: each of them counts, and changes nothing of what is kept of its point.
+use Rattle.std.specs.Prelude.{◌≡◌, [], ◌∷◌, ◌+◌, ◌<◌, ◌≤◌, ℕ, List, Some, slice_get, slice_index_or, true}
+use Rattle.site_types.specs.declared.heard.Heard.TheVariants.{Alarm}
+use Rattle.site_types.specs.declared.retained.Retained.{Retained}
+use Rattle.site_types.specs.declared.site.Site.{Site}
+use Rattle.site_types.specs.Done.{Done}
+use Rattle.answer_lanes.specs.Places.{has_place}
 use Rattle.site_types.specs.declared.answer.Answer.{Answer}
 use Rattle.site_types.specs.Bits.{has_bit}
 use Rattle.answer_lanes.specs.declared.answer_group.AnswerGroup.{AnswerGroup}
@@ -8,26 +13,38 @@ use Rattle.answer_lanes.specs.Points.{answer_at, mask_if}
 use Rattle.coincidence_rules.specs.Counted.{is_alarm, is_silent}
 use Rattle.coincidence_rules.specs.declared.finding.Finding.{Finding}
 use Rattle.coincidence.specs.declared.decide.Decide.{Decide}
-use Rattle.coincidence.specs.declared.plain_zone.PlainZone.{PlainZone}
 use Rattle.coincidence.specs.declared.point_watch.PointWatch.{PointWatch}
+use Rattle.coincidence.specs.declared.zone_watch.ZoneWatch.{ZoneWatch}
 use Rattle.coincidence.specs.Changes.{FindsNext, TakesAnswers}
-use Rattle.coincidence.specs.Parts.{StaysNoted, switch_at}
+use Rattle.coincidence.specs.Places.{GoesOnFrom}
+use Rattle.coincidence.specs.Stands.{DecidesFor}
 
--- an answer is an alarm of a detector in a zone of which this is said; it counts, and leaves what is kept of its point
--- as it is
-pub record GoesOnIn (decide : Decide) (answer : Answer) (zone : PlainZone) : Type 0 where
-  pub alarm : is_alarm answer.heard ≡ true
+-- an answer is an alarm of a point in a zone, one of the points whose alarms go on
+pub record GoesOnAgain (decide : Decide) (answer : Answer) (zone : ℕ) : Type 0 where
+  pub alarm : answer.heard ≡ Alarm
+  pub has : has_place decide.going_on answer.point ≡ true
   pub watch : PointWatch
   pub read : watch ≡ slice_index_or decide.points answer.point watch
-  pub own : zone.zone ≡ watch.zone
-  pub detector : watch.manual ≡ false
-  pub counts : (switch_at answer.stamp.0 watch.off || zone.blocked) ≡ false
-  pub stays : StaysNoted answer.heard true zone.floor watch
+  pub own : zone ≡ watch.zone
+  pub since : decide.since.0 ≤ answer.stamp.0
 
--- so do all answers of a run of which the bits of a byte tell
-abbrev pub AllGoOnIn : Decide → Run AnswerGroup → ℕ → PlainZone → Type 0
-AllGoOnIn decide run bits zone =
-    (k : ℕ) → k < run.count → has_bit bits k ≡ true → GoesOnIn decide (answer_at run.first (run.taken + k)) zone
+-- so are all answers of a run of which the bits of a byte tell
+abbrev pub AllGoOnAgain : Decide → Run AnswerGroup → ℕ → ℕ → Type 0
+AllGoOnAgain decide run bits zone =
+    (k : ℕ) → k < run.count → has_bit bits k ≡ true → GoesOnAgain decide (answer_at run.first (run.taken + k)) zone
+
+-- from an answer's tick on the alarms of its point go on
+abbrev pub IsSteady : Decide → Answer → Type 0
+IsSteady decide answer = (point : PointWatch) (zone : ZoneWatch) → slice_get decide.points answer.point ≡ Some point
+    → slice_get decide.zones.items point.zone ≡ Some zone → GoesOnFrom answer.stamp.0 decide.reset point zone
+
+-- no more than the points whose alarms go on is kept anew
+pub record MarksGoingOn (old decide : Decide) : Type 0 where
+  pub points : decide.points ≡ old.points
+  pub zones : decide.zones.items ≡ old.zones.items
+  pub reset : decide.reset ≡ old.reset
+  pub stands : (site : Site) (kept : Retained) (panel : ℕ) (done : List Done) (taken : List Answer)
+      → DecidesFor site kept panel done taken old → DecidesFor site kept panel done taken decide
 
 -- the finding of an answer that confirms and releases these zones where it is an alarm
 abbrev pub telling_of : ℕ → Answer → Finding

@@ -16,7 +16,7 @@ use tick_units::Tick;
 
 impl Decide {
     ghost use Rattle.coincidence.specs.Changes.{FindsNext, KeepsOthers, TakesAnswers, TakesJudged};
-    ghost use Rattle.coincidence.specs.PlainZones.{RunGoesOn, IsInPlainZone, IsKnown, IsOfPoint, KeepsKnown, KnowsZone};
+    ghost use Rattle.coincidence.specs.PlainZones.{RunGoesOn, IsKnown, IsOfPoint, KeepsKnown, KnowsZone};
     ghost use Rattle.coincidence.specs.Queries.{TellsJudgement};
     ghost use Rattle.coincidence.specs.Stands.{CanObserve, CanTake};
 
@@ -73,11 +73,13 @@ impl Decide {
         let test = is_on(&zone.test, answer.stamp);
         let reset = self.reset.before(answer.stamp);
         let moved = zone.moved.before(answer.stamp);
+        let settled = zone.is_settled(&self.reset, answer.stamp);
         Some(PlainZone {
             zone: point.zone,
             number: zone.number,
             blocked: off | test,
             floor: Tick(reset.0.max(moved.0)),
+            settled,
         })
     }
 
@@ -95,7 +97,7 @@ impl Decide {
         let point = self.points.at(answer.point as usize);
         let manual = point.manual;
         let judgement = self.judge_in(answer, point, zone);
-        self.note_in(answer, &judgement);
+        self.note_in(answer, &judgement, zone);
         let told = one_bit(zone.number, judgement.counted);
         let called = one_bit(zone.number, judgement.counted & manual);
         Finding {
@@ -109,17 +111,17 @@ impl Decide {
         }
     }
 
-    // Takes note of such an alarm, of which this is said. Where its run goes on, there is nothing to note.
+    // Takes note of such an alarm, of which this is said. Where its run goes on, it may do so from now on.
     #[inline(always)]
-    fn note_in(&mut self, answer: &Answer, judgement: &Judgement)
+    fn note_in(&mut self, answer: &Answer, judgement: &Judgement, zone: &PlainZone)
         requires can { CanTake self.old (answer.now ∷ []) }
-        requires zone { IsInPlainZone answer.now self.old }
+        requires zone { IsOfPoint answer.now self.old zone.now }
         ensures taken { TakesJudged self.old answer.now judgement.now self.new }
         ensures others { KeepsOthers answer.now.point self.old self.new }
         ensures known { KeepsKnown self.old self.new }
     {
         if self.goes_on(answer, judgement) {
-            return;
+            return self.mark_going_on(answer, zone);
         }
         self.note_alarm(answer, judgement)
     }

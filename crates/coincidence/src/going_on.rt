@@ -1,20 +1,22 @@
 //! Alarms of a run that go on in one plain zone: they change nothing of what is kept, and all mean the same.
 
-ghost use Rattle.std.specs.Prelude.{◌≡◌, ◌<◌, IfSome, true};
+ghost use Rattle.std.specs.Prelude.{◌≡◌, [], ◌∷◌, ◌+◌, ◌<◌, ◌≤◌, IfSome, true};
 ghost use Rattle.answer_lanes.specs.Points.{answer_at};
 ghost use Rattle.answer_lanes.specs.Runs.{items_of};
 
 use crate::bits::{lowest_bit, one_bit};
 use crate::decide::Decide;
 use crate::plain_zone::PlainZone;
-use crate::rules::is_on;
 use answer_lanes::{AnswerGroup, Run};
-use site_types::{Answer, with_bit_8};
+use site_types::{Answer, Heard, has_bit_8, with_bit_8};
+use tick_units::Tick;
 
 impl Decide {
-    ghost use Rattle.coincidence.specs.GoingOn.{AllGoOnIn, AllConfirmAgain, GoesOnIn};
+    ghost use Rattle.coincidence.specs.GoingOn.{AllConfirmAgain, AllGoOnAgain, GoesOnAgain, IsSteady, MarksGoingOn};
     ghost use Rattle.coincidence.specs.Resting.{IsWithinEight, TellsChanging};
-    ghost use Rattle.coincidence.specs.Stands.{CanObserve, CanTake};
+    ghost use Rattle.coincidence.specs.PlainZones.{IsOfPoint};
+    ghost use Rattle.coincidence.specs.Stands.{CanTake};
+    ghost use Rattle.answer_lanes.specs.Places.{AreEight};
 
     // The zones that are confirmed by those answers of a run within a group of eight of which the bits tell, where all
     // of them are alarms that go on in one plain zone.
@@ -25,29 +27,34 @@ impl Decide {
         requires can { CanTake self.now (items_of answer_at run.now) }
         ensures { IfSome result (AllConfirmAgain self.now run.now changing) }
     {
-        let answer = run.item(run.taken + lowest_bit(changing));
-        let point = self.points.at(answer.point as usize);
-        match self.plain_zone(&answer, point) {
-            Some(zone) => if self.all_go_on(run, changing, &zone) {
-                Some(one_bit(zone.number, true))
-            } else {
-                None
-            },
-            None => None,
+        if run.first.stamp.0 < self.since.0 {
+            return None;
         }
+        let bit = lowest_bit(changing);
+        let point = self
+            .points
+            .at(run.first.point as usize + (run.taken + bit) as usize);
+        if !self.all_go_on(run, changing, point.zone) {
+            return None;
+        }
+        let zone = &self.zones[point.zone as usize];
+        Some(one_bit(zone.number, true))
     }
 
-    // Whether all answers of a run within a group of eight of which the bits tell go on in a zone of which this is said.
-    fn all_go_on(&self, run: &Run<AnswerGroup>, changing: u8, zone: &PlainZone) -> bool
+    // Whether those answers of a run within a group of eight are alarms that go on in this zone.
+    fn all_go_on(&self, run: &Run<AnswerGroup>, changing: u8, zone: u16) -> bool
+        requires since { self.now.since.0 ≤ run.now.first.stamp.0 }
         requires within { IsWithinEight run.now }
         requires tells { TellsChanging self.now run.now changing }
         requires can { CanTake self.now (items_of answer_at run.now) }
-        ensures { result ≡ true → AllGoOnIn self.now run.now changing zone.now }
+        ensures { result ≡ true → AllGoOnAgain self.now run.now changing zone }
     {
+        let first = run.first.point as usize + run.taken as usize;
+        let going = self.going_on.eight_from(first);
         let mut left = changing;
         while left != 0 {
             let bit = lowest_bit(left);
-            if !self.goes_on_in(&run.item(run.taken + bit), zone) {
+            if !self.goes_on_at(run, bit, going, zone) {
                 return false;
             }
             left = with_bit_8(left, bit, false);
@@ -55,19 +62,52 @@ impl Decide {
         true
     }
 
-    // Whether an answer is an alarm of a detector in a zone of which this is said, counts, and leaves what is kept of its
-    // point as it is.
+    // Whether one of them is, by the bits of the eight points whose alarms go on.
     #[inline(always)]
-    fn goes_on_in(&self, answer: &Answer, zone: &PlainZone) -> bool
-        requires { CanObserve self.now answer.now }
-        ensures { result ≡ true → GoesOnIn self.now answer.now zone.now }
+    fn goes_on_at(&self, run: &Run<AnswerGroup>, bit: u8, going: u8, zone: u16) -> bool
+        requires since { self.now.since.0 ≤ run.now.first.stamp.0 }
+        requires within { IsWithinEight run.now }
+        requires small { bit < run.now.count }
+        requires going { AreEight self.now.going_on (run.now.first.point + run.now.taken) going }
+        requires can { CanTake self.now (items_of answer_at run.now) }
+        ensures { result ≡ true
+            → GoesOnAgain self.now (answer_at run.now.first (run.now.taken + bit)) zone }
     {
-        let point = self.points.at(answer.point as usize);
-        if point.zone != zone.zone {
+        let place = run.taken + bit;
+        if !has_bit_8(run.first.alarms, place) {
             return false;
         }
-        let off = is_on(&point.off, answer.stamp);
-        let stays = point.stays_at(answer.heard, true, zone.floor);
-        stays & !(off | zone.blocked) & !point.manual
+        if !has_bit_8(going, bit) {
+            return false;
+        }
+        let point = self.points.at(run.first.point as usize + place as usize);
+        point.zone == zone
+    }
+
+    // Marks the point of an alarm in a zone of which this is said, if its alarms go on from now on.
+    pub(crate) fn mark_going_on(&mut self, answer: &Answer, zone: &PlainZone)
+        requires can { CanTake self.old (answer.now ∷ []) }
+        requires zone { IsOfPoint answer.now self.old zone.now }
+        ensures { MarksGoingOn self.old self.new }
+    {
+        if !self.is_steady(answer, zone) {
+            return;
+        }
+        self.going_on.set(answer.point as usize, true);
+        self.since = Tick(self.since.0.max(answer.stamp.0));
+    }
+
+    // Whether they do.
+    fn is_steady(&self, answer: &Answer, zone: &PlainZone) -> bool
+        requires can { CanTake self.now (answer.now ∷ []) }
+        requires zone { IsOfPoint answer.now self.now zone.now }
+        ensures { result ≡ true → IsSteady self.now answer.now }
+    {
+        let point = self.points.at(answer.point as usize);
+        if point.off.since.0 >= answer.stamp.0 {
+            return false;
+        }
+        let stays = point.stays_at(Heard::Alarm, true, zone.floor);
+        stays & zone.settled & !(zone.blocked | point.off.now) & !point.manual
     }
 }

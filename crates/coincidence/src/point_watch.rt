@@ -1,7 +1,6 @@
 ghost use Rattle.std.specs.Prelude.{◌≡◌, ◌≤◌, true};
 ghost use Rattle.coincidence.specs.Parts.{StaysNoted, is_at_rest, point_begun, point_noted, stays_missing};
 ghost use Rattle.coincidence.specs.Parts.{switch_after};
-ghost use Rattle.coincidence_rules.specs.Counted.{is_alarm};
 ghost use Rattle.site_types.specs.Profile.{missing_askings};
 
 use site_types::{Heard, Point};
@@ -48,8 +47,7 @@ impl PointWatch {
 
     /// Whether its run goes on with an answer, so that this leaves it as it is.
     pub fn stays_at(&self, heard: Heard, counted: bool, floor: Tick) -> bool
-        ensures stays { result ≡ true → StaysNoted heard counted floor self.now }
-        ensures alarm { result ≡ true → is_alarm heard ≡ true }
+        ensures { result ≡ true → StaysNoted heard counted floor self.now }
     {
         let goes_on = match self.run {
             Some(first) => floor.0 < first.0,

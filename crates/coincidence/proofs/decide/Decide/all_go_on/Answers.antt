@@ -1,24 +1,19 @@
-use Rattle.std.proofs.Common.{◌+◌, refl, sym, subst}
-use Rattle.coincidence.specs.GoingOn.{GoesOnIn}
-use Rattle.coincidence.specs.Stands.{CanObserve}
-use Rattle.coincidence.proofs.GoingOn.{all_found_on, cleared_smaller, found_on_next, found_on_none, item_observed}
+use Rattle.coincidence.proofs.GoingOn.{all_found_on, cleared_smaller, found_on_next, found_on_none}
 use Rattle.coincidence.proofs.decide.Decide.all_go_on.Goals as goal
 
 pub loop-left-init : goal.loop-left-init
-loop-left-init c = found_on_none c.args.self.now c.args.run.now c.args.zone.now c.args.changing c.ranges.changing.fits
+loop-left-init c = found_on_none c.args.self.now c.args.run.now c.args.zone c.args.changing c.ranges.changing.fits
 
-pub goes_on_in-requires : goal.goes_on_in-requires
-goes_on_in-requires c =
-    let low = c.lowest_bit-bit.ensures in
+pub goes_on_at-requires-clause-small : goal.goes_on_at-requires-clause-small
+goes_on_at-requires-clause-small c =
     let bit = c.lowest_bit-bit.result in
-    subst (CanObserve c.args.self.now) (sym c.item.ensures)
-    (item_observed c.args.self.now c.args.run.now bit (c.requires.tells.within bit (c.loop-left.invariant.among bit low.set)) c.requires.can)
+    c.requires.tells.within bit (c.loop-left.invariant.among bit c.lowest_bit-bit.ensures.set)
 
 pub loop-left-preserved : goal.loop-left-preserved
 loop-left-preserved c =
-    found_on_next c.loop-left.invariant c.lowest_bit-bit.result c.with_bit_8-left.result
-    (subst (λ a. GoesOnIn c.args.self.now a c.args.zone.now) c.item.ensures (c.goes_on_in.ensures c.if-not-goes_on_in.false)) c.with_bit_8-left.type_inv
-    c.with_bit_8-left.ensures.others c.with_bit_8-left.ensures.this
+    let next = c.with_bit_8-left in
+    found_on_next c.loop-left.invariant c.lowest_bit-bit.result next.result (c.goes_on_at.ensures c.if-not-goes_on_at.false) next.type_inv
+    next.ensures.others next.ensures.this
 
 pub loop-left-smaller : goal.loop-left-smaller
 loop-left-smaller c =

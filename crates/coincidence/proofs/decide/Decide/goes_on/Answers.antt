@@ -8,4 +8,4 @@ at-point-requires c =
     point_small q.stands c.args.answer.now.point (q.may.own 0 c.args.answer.now refl)
 
 pub returns : goal.returns
-returns c is = record { watch = c.at-point.result.now; read = c.at-point.ensures; stays = c.stays_at.ensures.stays is }
+returns c is = record { watch = c.at-point.result.now; read = c.at-point.ensures; stays = c.stays_at.ensures is }

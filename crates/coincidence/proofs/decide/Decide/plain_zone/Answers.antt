@@ -40,6 +40,7 @@ returns c =
             partner = plain.1;
             number = refl;
             blocked = ap (λ b. b || c.is_on-test.result) c.is_on-off.ensures ∙ ap (λ b. switch_at x z.off || b) c.is_on-test.ensures;
+            settled = c.is_settled-settled.ensures;
             floor = c.max.ensures ∙ ap (λ n. max n c.before-moved.result.0) c.before-reset.ensures
                 ∙ ap (λ n. max (last_at x c.args.self.now.reset) n) c.before-moved.ensures;
           });

@@ -46,6 +46,3 @@ returns-clause-found c site kept panel done taken stands may =
 
 pub returns-clause-known : goal.returns-clause-known
 returns-clause-known c = c.note_in.ensures.known c.args.answer.now.stamp.0 c.args.zone.now c.requires.zone.known
-
-pub note_in-requires-clause-zone : goal.note_in-requires-clause-zone
-note_in-requires-clause-zone c = (c.args.zone.now, c.requires.zone)

@@ -1,38 +1,41 @@
-use Rattle.std.proofs.Common.{◌<◌, ◌+◌, length, refl, sym, ◌∙◌, ap, subst, arith}
-use Rattle.std.specs.Prelude.{IfSome}
+use Rattle.std.proofs.Common.{◌≡◌, ◌+◌, ◌<◌, length, get_or, sym, ◌∙◌, ap, subst}
 use Rattle.answer_lanes.specs.Points.{answer_at}
-use Rattle.coincidence.specs.PlainZones.{IsKnown, IsOfPoint}
-use Rattle.coincidence.specs.Stands.{CanObserve}
-use Rattle.coincidence.proofs.GoingOn.{confirms_again, item_observed}
-use Rattle.coincidence.proofs.PlainZones.{numbered}
-use Rattle.coincidence.proofs.Watched.{point_small}
+use Rattle.coincidence.proofs.GoingOn.{confirms_again, item_observed, point_of}
+use Rattle.coincidence.proofs.Watched.{number_fits, point_small, zone_small}
 use Rattle.coincidence.proofs.decide.Decide.zones_going_on.Goals as goal
 
 pub at-point-requires : goal.at-point-requires
 at-point-requires c =
-    let low = c.lowest_bit.ensures in
-    let q = item_observed c.args.self.now c.args.run.now c.lowest_bit.result (c.requires.tells.within c.lowest_bit.result low.set) c.requires.can in
-    subst (λ a. a.point < length c.args.self.now.points) (sym c.item-answer.ensures) (point_small q.stands _ q.may.own)
+    let run = c.args.run.now in
+    let bit = c.lowest_bit-bit.result in
+    let small = c.requires.tells.within bit c.lowest_bit-bit.ensures.set in
+    let q = item_observed c.args.self.now run bit small c.requires.can in
+    subst (λ n. n < length c.args.self.now.points) (point_of run bit c.requires.within small) (point_small q.stands _ q.may.own)
 
-pub plain_zone-requires-clause-may : goal.plain_zone-requires-clause-may
-plain_zone-requires-clause-may c =
-    let low = c.lowest_bit.ensures in
-    subst (CanObserve c.args.self.now) (sym c.item-answer.ensures)
-    (item_observed c.args.self.now c.args.run.now c.lowest_bit.result (c.requires.tells.within c.lowest_bit.result low.set) c.requires.can)
+pub index-zone-requires : goal.index-zone-requires
+index-zone-requires c =
+    let run = c.args.run.now in
+    let bit = c.lowest_bit-bit.result in
+    let small = c.requires.tells.within bit c.lowest_bit-bit.ensures.set in
+    let q = item_observed c.args.self.now run bit small c.requires.can in
+    let point = c.at-point.result.now in
+    let read = c.at-point.ensures ∙ ap (λ n. get_or c.args.self.now.points n point) (sym (point_of run bit c.requires.within small)) in
+    subst (λ n. point.zone < n) (sym c.args.self.now.zones.ok.0)
+    (zone_small q.stands (answer_at run.first (run.taken + bit)).point q.may.own point read)
 
 pub one_bit-requires : goal.one_bit-requires
 one_bit-requires c =
-    let low = c.lowest_bit.ensures in
-    let q : CanObserve c.args.self.now c.item-answer.result =
-    subst (CanObserve c.args.self.now) (sym c.item-answer.ensures)
-    (item_observed c.args.self.now c.args.run.now c.lowest_bit.result (c.requires.tells.within c.lowest_bit.result low.set) c.requires.can) in
-    numbered q.stands c.item-answer.result q.may c.at-point.result.now c.at-point.ensures c.in-Some.zone
-    (subst (λ o. IfSome o (IsOfPoint c.item-answer.result c.args.self.now)) c.in-Some.is c.plain_zone.ensures)
+    let run = c.args.run.now in
+    let bit = c.lowest_bit-bit.result in
+    let small = c.requires.tells.within bit c.lowest_bit-bit.ensures.set in
+    let q = item_observed c.args.self.now run bit small c.requires.can in
+    let point = c.at-point.result.now in
+    let read = c.at-point.ensures ∙ ap (λ n. get_or c.args.self.now.points n point) (sym (point_of run bit c.requires.within small)) in
+    number_fits q.stands (answer_at run.first (run.taken + bit)).point q.may.own point c.index-zone.result.now read c.index-zone.ensures
 
-pub returns-then-all_go_on : goal.returns-then-all_go_on
-returns-then-all_go_on c k small set_bit =
-    let of : IsOfPoint c.item-answer.result c.args.self.now c.in-Some.zone =
-    subst (λ o. IfSome o (IsOfPoint c.item-answer.result c.args.self.now)) c.in-Some.is c.plain_zone.ensures in
-    confirms_again c.args.self.now (answer_at c.args.run.now.first (c.args.run.now.taken + k)) c.in-Some.zone
-    (subst (λ a. IsKnown a.stamp.0 c.args.self.now c.in-Some.zone) c.item-answer.ensures of.known)
-    (c.all_go_on.ensures c.if-all_go_on.true k small set_bit) c.one_bit.result c.one_bit.type_inv c.one_bit.ensures
+pub returns : goal.returns
+returns c k small set_bit =
+    let run = c.args.run.now in
+    confirms_again c.args.self.now (answer_at run.first (run.taken + k)) c.at-point.result.now.zone
+    (c.all_go_on.ensures c.if-not-all_go_on.false k small set_bit) c.index-zone.result.now c.index-zone.ensures c.one_bit.result c.one_bit.type_inv
+    c.one_bit.ensures
