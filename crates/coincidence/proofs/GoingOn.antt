@@ -1,6 +1,6 @@
 -- Alarms that go on in a plain zone leave all that is kept as it is, and confirm and release that zone.
-use Rattle.std.proofs.Common.{◌≡◌, ◌≢◌, ◌⊎◌, inl, inr, nat_lt, ℕ, ◌+◌, ◌<◌, ◌≤◌, ◌^◌, ◌==◌, ◌&&◌, ◌||◌, Bool, true, false, not, List, [], ◌∷◌, ◌++◌, Some, length, map, max, min, slice_get, get_or, if◌then◌else◌, refl, sym, ◌∙◌, ap, subst, arith}
-use Rattle.std.specs.Int.{w8}
+use Rattle.std.proofs.Common.{◌≡◌, ◌≢◌, ◌⊎◌, inl, inr, nat_lt, ℕ, ◌+◌, ◌<◌, ◌≤◌, ◌^◌, ◌==◌, ◌&&◌, ◌||◌, Bool, true, false, not, List, [], ◌∷◌, ◌++◌, Some, length, map, max, min, slice_get, get_or, bit_and, if◌then◌else◌, refl, sym, ◌∙◌, ap, subst, arith}
+use Rattle.std.specs.Int.{w8, bit_not}
 use Rattle.std.proofs.lemmas.Nat.{and_le_l}
 use Rattle.std.proofs.lemmas.List.FromFn.{get_or-map-range_with_len}
 use Rattle.std.proofs.lemmas.Option.{slice_get-get_or}
@@ -12,7 +12,7 @@ use Rattle.site_types.specs.Done.{Done}
 use Rattle.std.proofs.lemmas.Bool.Decides.{eqb_tells}
 use Rattle.site_types.proofs.Done.{lt_tells}
 use Rattle.answer_lanes.proofs.MaskBits.{set_below}
-use Rattle.site_types.proofs.Masks.{has_bit-above, has_bit-zero}
+use Rattle.site_types.proofs.Masks.{has_bit-above, has_bit-and, has_bit-not, has_bit-zero}
 use Rattle.answer_lanes.specs.declared.answer_group.AnswerGroup.{AnswerGroup}
 use Rattle.answer_lanes.specs.declared.run.Run.{Run}
 use Rattle.answer_lanes.specs.Points.{answer_at, mask_if}
@@ -25,7 +25,9 @@ use Rattle.coincidence.specs.declared.decide.Decide.{Decide}
 use Rattle.coincidence.specs.declared.judgement.Judgement.{Judgement}
 use Rattle.coincidence.specs.declared.plain_zone.PlainZone.{PlainZone}
 use Rattle.coincidence.specs.declared.point_watch.PointWatch.{PointWatch}
-use Rattle.coincidence.specs.GoingOn.{AllGoOnAgain, ConfirmsAgain, GoesOnAgain, telling_of}
+use Rattle.coincidence.specs.GoingOn.{AreInZone, ConfirmsAgain, IsInZone, telling_of}
+use Rattle.site_types.specs.declared.heard.Heard.TheVariants.{Alarm}
+use Rattle.answer_lanes.specs.Places.{has_place}
 use Rattle.coincidence.specs.Places.{GoesOnFrom}
 use Rattle.tick_units.specs.LastTicks.{last_at}
 use Rattle.coincidence.specs.declared.zone_watch.ZoneWatch.{ZoneWatch}
@@ -140,6 +142,15 @@ module _ {site : Site} {kept : Retained} {panel : ℕ} {done : List Done} {taken
 
 -- ---- one of a point of which it is known that its alarms go on
 
+-- it is of a point in a zone, one of those whose alarms go on
+pub record GoesOnAgain (decide : Decide) (answer : Answer) (zone : ℕ) : Type 0 where
+  pub alarm : answer.heard ≡ Alarm
+  pub has : has_place decide.going_on answer.point ≡ true
+  pub watch : PointWatch
+  pub read : watch ≡ get_or decide.points answer.point watch
+  pub own : zone ≡ watch.zone
+  pub since : decide.since.0 ≤ answer.stamp.0
+
 module _ {site : Site} {kept : Retained} {panel : ℕ} {done : List Done} {taken : List Answer} {decide : Decide} (stands :
     DecidesFor site kept panel done taken decide) (answer : Answer) (may : MayTake site panel done taken (answer ∷ [])) (zone : ℕ)
     (on : GoesOnAgain decide answer zone) where
@@ -211,9 +222,9 @@ cleared_smaller byte bit rest is was cleared =
     let apart : rest ≢ byte = λ e. (let at = ap (λ n. has_bit n bit) e in cc) in
     omega (arith, least, apart)
 
--- those whose bits are no longer left are found to go on
+-- those whose bits are no longer left are found to be of points in a zone
 pub record AreFoundOn (decide : Decide) (run : Run AnswerGroup) (zone : ℕ) (bits left : ℕ) : Type 0 where
-  pub found : (k : ℕ) → has_bit bits k ≡ true → has_bit left k ≡ false → GoesOnAgain decide (answer_at run.first (run.taken + k)) zone
+  pub found : (k : ℕ) → has_bit bits k ≡ true → has_bit left k ≡ false → IsInZone decide (answer_at run.first (run.taken + k)) zone
   pub among : (k : ℕ) → has_bit left k ≡ true → has_bit bits k ≡ true
   pub fits : left < 2 ^ 8
 
@@ -221,7 +232,7 @@ pub found_on_none : (decide : Decide) (run : Run AnswerGroup) (zone : ℕ) (bits
 found_on_none decide run zone bits below = record { found = λ k is no'. absurd (cc); among = λ k is. is; fits = below }
 
 module _ {decide : Decide} {run : Run AnswerGroup} {zone : ℕ} {bits left : ℕ} (h : AreFoundOn decide run zone bits left) where
-  pub found_on_next : (bit rest : ℕ) → GoesOnAgain decide (answer_at run.first (run.taken + bit)) zone → rest < 2 ^ 8
+  pub found_on_next : (bit rest : ℕ) → IsInZone decide (answer_at run.first (run.taken + bit)) zone → rest < 2 ^ 8
       → ((k : ℕ) → k < 8 → k ≢ bit → has_bit rest k ≡ has_bit left k) → has_bit rest bit ≡ false → AreFoundOn decide run zone bits rest
   found_on_next bit rest on below others this = record {
     found = λ k is gone. by k is gone (eqb_tells k bit);
@@ -230,13 +241,25 @@ module _ {decide : Decide} {run : Run AnswerGroup} {zone : ℕ} {bits left : ℕ
   }
     where
       by : (k : ℕ) → has_bit bits k ≡ true → has_bit rest k ≡ false → ((k == bit) ≡ true) × (k ≡ bit) ⊎ (((k == bit) ≡ false) × (k ≢ bit))
-          → GoesOnAgain decide (answer_at run.first (run.taken + k)) zone
-      by k is gone (inl same) = subst (λ n. GoesOnAgain decide (answer_at run.first (run.taken + n)) zone) (sym same.1) on
+          → IsInZone decide (answer_at run.first (run.taken + k)) zone
+      by k is gone (inl same) = subst (λ n. IsInZone decide (answer_at run.first (run.taken + n)) zone) (sym same.1) on
       by k is gone (inr other) = under (lt_tells k 8)
         where
-          under : ((nat_lt k 8 ≡ true) × (k < 8)) ⊎ ((nat_lt k 8 ≡ false) × (8 ≤ k)) → GoesOnAgain decide (answer_at run.first (run.taken + k)) zone
+          under : ((nat_lt k 8 ≡ true) × (k < 8)) ⊎ ((nat_lt k 8 ≡ false) × (8 ≤ k)) → IsInZone decide (answer_at run.first (run.taken + k)) zone
           under (inl less) = h.found k is (sym (others k less.1 other.1) ∙ gone)
           under (inr above) = h.found k is (has_bit-above 8 left k h.fits above.1)
 
-  pub all_found_on : left ≡ 0 → AllGoOnAgain decide run bits zone
+  pub all_found_on : left ≡ 0 → AreInZone decide run bits zone
   all_found_on none k small is = h.found k is (ap (λ m. has_bit m k) none ∙ has_bit-zero k)
+
+-- a byte of which another one takes all bits has no bits beside those
+pub bits_among : (byte others k : ℕ) → others < 2 ^ 8 → bit_and byte (bit_not w8 others) ≡ 0 → k < 8 → has_bit byte k ≡ true → has_bit others k ≡ true
+bits_among byte others k below none eight is =
+    both (has_bit byte k) (has_bit others k) is
+    (ap (λ b. has_bit byte k && b) (sym (has_bit-not w8 others k below eight)) ∙ sym (has_bit-and byte (bit_not w8 others) k)
+    ∙ ap (λ n. has_bit n k) none ∙ has_bit-zero k)
+  where
+    both : (a b : Bool) → a ≡ true → (a && not b) ≡ false → b ≡ true
+    both true true e f = refl
+    both true false e f = absurd (cc)
+    both false b e f = absurd (cc)

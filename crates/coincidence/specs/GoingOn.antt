@@ -19,19 +19,26 @@ use Rattle.coincidence.specs.Changes.{FindsNext, TakesAnswers}
 use Rattle.coincidence.specs.Places.{GoesOnFrom}
 use Rattle.coincidence.specs.Stands.{DecidesFor}
 
--- an answer is an alarm of a point in a zone, one of the points whose alarms go on
-pub record GoesOnAgain (decide : Decide) (answer : Answer) (zone : ℕ) : Type 0 where
+-- an answer is an alarm of one of the points whose alarms go on
+pub record IsMarkedAlarm (decide : Decide) (answer : Answer) : Type 0 where
   pub alarm : answer.heard ≡ Alarm
   pub has : has_place decide.going_on answer.point ≡ true
+
+-- so are all answers of a run of which the bits of a byte tell
+abbrev pub AreMarkedAlarms : Decide → Run AnswerGroup → ℕ → Type 0
+AreMarkedAlarms decide run bits =
+    (k : ℕ) → k < run.count → has_bit bits k ≡ true → IsMarkedAlarm decide (answer_at run.first (run.taken + k))
+
+-- an answer is of a point in a zone
+pub record IsInZone (decide : Decide) (answer : Answer) (zone : ℕ) : Type 0 where
   pub watch : PointWatch
   pub read : watch ≡ slice_index_or decide.points answer.point watch
   pub own : zone ≡ watch.zone
-  pub since : decide.since.0 ≤ answer.stamp.0
 
 -- so are all answers of a run of which the bits of a byte tell
-abbrev pub AllGoOnAgain : Decide → Run AnswerGroup → ℕ → ℕ → Type 0
-AllGoOnAgain decide run bits zone =
-    (k : ℕ) → k < run.count → has_bit bits k ≡ true → GoesOnAgain decide (answer_at run.first (run.taken + k)) zone
+abbrev pub AreInZone : Decide → Run AnswerGroup → ℕ → ℕ → Type 0
+AreInZone decide run bits zone =
+    (k : ℕ) → k < run.count → has_bit bits k ≡ true → IsInZone decide (answer_at run.first (run.taken + k)) zone
 
 -- from an answer's tick on the alarms of its point go on
 abbrev pub IsSteady : Decide → Answer → Type 0

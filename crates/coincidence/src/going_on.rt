@@ -1,6 +1,6 @@
 //! Alarms of a run that go on in one plain zone: they change nothing of what is kept, and all mean the same.
 
-ghost use Rattle.std.specs.Prelude.{◌≡◌, [], ◌∷◌, ◌+◌, ◌<◌, ◌≤◌, IfSome, true};
+ghost use Rattle.std.specs.Prelude.{◌≡◌, [], ◌∷◌, ◌<◌, IfSome, true};
 ghost use Rattle.answer_lanes.specs.Points.{answer_at};
 ghost use Rattle.answer_lanes.specs.Runs.{items_of};
 
@@ -8,15 +8,14 @@ use crate::bits::{lowest_bit, one_bit};
 use crate::decide::Decide;
 use crate::plain_zone::PlainZone;
 use answer_lanes::{AnswerGroup, Run};
-use site_types::{Answer, Heard, has_bit_8, with_bit_8};
+use site_types::{Answer, Heard, with_bit_8};
 use tick_units::Tick;
 
 impl Decide {
-    ghost use Rattle.coincidence.specs.GoingOn.{AllConfirmAgain, AllGoOnAgain, GoesOnAgain, IsSteady, MarksGoingOn};
+    ghost use Rattle.coincidence.specs.GoingOn.{AllConfirmAgain, AreInZone, AreMarkedAlarms, IsSteady, MarksGoingOn};
     ghost use Rattle.coincidence.specs.Resting.{IsWithinEight, TellsChanging};
     ghost use Rattle.coincidence.specs.PlainZones.{IsOfPoint};
     ghost use Rattle.coincidence.specs.Stands.{CanTake};
-    ghost use Rattle.answer_lanes.specs.Places.{AreEight};
 
     // The zones that are confirmed by those answers of a run within a group of eight of which the bits tell, where all
     // of them are alarms that go on in one plain zone.
@@ -30,58 +29,46 @@ impl Decide {
         if run.first.stamp.0 < self.since.0 {
             return None;
         }
+        if changing & !self.marked_bits(run) != 0 {
+            return None;
+        }
         let bit = lowest_bit(changing);
         let point = self
             .points
             .at(run.first.point as usize + (run.taken + bit) as usize);
-        if !self.all_go_on(run, changing, point.zone) {
+        if !self.are_in_zone(run, changing, point.zone) {
             return None;
         }
         let zone = &self.zones[point.zone as usize];
         Some(one_bit(zone.number, true))
     }
 
-    // Whether those answers of a run within a group of eight are alarms that go on in this zone.
-    fn all_go_on(&self, run: &Run<AnswerGroup>, changing: u8, zone: u16) -> bool
-        requires since { self.now.since.0 ≤ run.now.first.stamp.0 }
+    // Which of the answers of a run within a group of eight are alarms of points whose alarms go on, a bit for each.
+    fn marked_bits(&self, run: &Run<AnswerGroup>) -> u8
+        requires { IsWithinEight run.now }
+        ensures { AreMarkedAlarms self.now run.now result }
+    {
+        let first = run.first.point as usize + run.taken as usize;
+        self.going_on.eight_from(first) & run.first.alarms_from(run.taken)
+    }
+
+    // Whether those answers of a run within a group of eight of which the bits tell are all of points in this zone.
+    fn are_in_zone(&self, run: &Run<AnswerGroup>, changing: u8, zone: u16) -> bool
         requires within { IsWithinEight run.now }
         requires tells { TellsChanging self.now run.now changing }
         requires can { CanTake self.now (items_of answer_at run.now) }
-        ensures { result ≡ true → AllGoOnAgain self.now run.now changing zone }
+        ensures { result ≡ true → AreInZone self.now run.now changing zone }
     {
         let first = run.first.point as usize + run.taken as usize;
-        let going = self.going_on.eight_from(first);
         let mut left = changing;
         while left != 0 {
             let bit = lowest_bit(left);
-            if !self.goes_on_at(run, bit, going, zone) {
+            if self.points.at(first + bit as usize).zone != zone {
                 return false;
             }
             left = with_bit_8(left, bit, false);
         }
         true
-    }
-
-    // Whether one of them is, by the bits of the eight points whose alarms go on.
-    #[inline(always)]
-    fn goes_on_at(&self, run: &Run<AnswerGroup>, bit: u8, going: u8, zone: u16) -> bool
-        requires since { self.now.since.0 ≤ run.now.first.stamp.0 }
-        requires within { IsWithinEight run.now }
-        requires small { bit < run.now.count }
-        requires going { AreEight self.now.going_on (run.now.first.point + run.now.taken) going }
-        requires can { CanTake self.now (items_of answer_at run.now) }
-        ensures { result ≡ true
-            → GoesOnAgain self.now (answer_at run.now.first (run.now.taken + bit)) zone }
-    {
-        let place = run.taken + bit;
-        if !has_bit_8(run.first.alarms, place) {
-            return false;
-        }
-        if !has_bit_8(going, bit) {
-            return false;
-        }
-        let point = self.points.at(run.first.point as usize + place as usize);
-        point.zone == zone
     }
 
     // Marks the point of an alarm in a zone of which this is said, if its alarms go on from now on.

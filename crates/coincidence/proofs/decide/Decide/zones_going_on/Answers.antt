@@ -1,6 +1,6 @@
-use Rattle.std.proofs.Common.{◌≡◌, ◌+◌, ◌<◌, length, get_or, sym, ◌∙◌, ap, subst}
+use Rattle.std.proofs.Common.{◌≡◌, ◌+◌, ◌<◌, length, get_or, sym, ◌∙◌, ap, subst, arith}
 use Rattle.answer_lanes.specs.Points.{answer_at}
-use Rattle.coincidence.proofs.GoingOn.{confirms_again, item_observed, point_of}
+use Rattle.coincidence.proofs.GoingOn.{bits_among, confirms_again, item_observed, point_of}
 use Rattle.coincidence.proofs.Watched.{number_fits, point_small, zone_small}
 use Rattle.coincidence.proofs.decide.Decide.zones_going_on.Goals as goal
 
@@ -36,6 +36,17 @@ one_bit-requires c =
 pub returns : goal.returns
 returns c k small set_bit =
     let run = c.args.run.now in
+    let places = c.requires.within.places in
+    let marked = c.marked_bits.ensures k small
+    (bits_among c.args.changing c.marked_bits.result k c.marked_bits.type_inv c.if-changing-marked_bits-ne0.false (omega (arith, places, small)) set_bit) in
+    let in_zone = c.are_in_zone.ensures c.if-not-are_in_zone.false k small set_bit in
     confirms_again c.args.self.now (answer_at run.first (run.taken + k)) c.at-point.result.now.zone
-    (c.all_go_on.ensures c.if-not-all_go_on.false k small set_bit) c.index-zone.result.now c.index-zone.ensures c.one_bit.result c.one_bit.type_inv
-    c.one_bit.ensures
+    (record {
+      alarm = marked.alarm;
+      has = marked.has;
+      watch = in_zone.watch;
+      read = in_zone.read;
+      own = in_zone.own;
+      since = c.if-run-self.false;
+    })
+    c.index-zone.result.now c.index-zone.ensures c.one_bit.result c.one_bit.type_inv c.one_bit.ensures

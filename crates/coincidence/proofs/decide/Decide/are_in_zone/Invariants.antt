@@ -1,5 +1,5 @@
 use Rattle.coincidence.proofs.GoingOn.{AreFoundOn}
-use Rattle.coincidence.proofs.decide.Decide.all_go_on.Given as goal
+use Rattle.coincidence.proofs.decide.Decide.are_in_zone.Given as goal
 
 abbrev pub invariant-loop-left : goal.invariant-loop-left
 invariant-loop-left l = AreFoundOn l.self l.run l.zone l.changing l.left
