@@ -1,6 +1,6 @@
 -- What is kept after an operation stands for one more operation.
 use Rattle.std.proofs.Common.{◌≡◌, ℕ, suc, ◌<◌, ◌≤◌, Bool, true, false, not, List, [], ◌∷◌, length, Option, Some}
-use Rattle.std.proofs.Common.{None, slice_get, get_or, ◌==◌, ◌&&◌, ◌||◌, nat_lt, if◌then◌else◌, refl, sym, ◌∙◌, ap}
+use Rattle.std.proofs.Common.{None, slice_get, get_or, ◌==◌, ◌&&◌, nat_lt, if◌then◌else◌, refl, sym, ◌∙◌, ap}
 use Rattle.std.proofs.Common.{subst, arith}
 use Rattle.tick_units.specs.declared.tick.Tick.{Tick}
 use Rattle.tick_units.specs.declared.switch.Switch.{Switch}

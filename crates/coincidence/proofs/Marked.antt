@@ -1,5 +1,5 @@
 -- The set of the points whose alarms go on is right after what changes it, and after what it tells of changes.
-use Rattle.std.proofs.Common.{◌≡◌, ◌≢◌, ◌⊎◌, inl, inr, ⊎_elim, ℕ, ◌+◌, ◌*◌, ◌<◌, ◌≤◌, ◌==◌, ◌||◌, Bool, true, false, if◌then◌else◌, List, Some, length, length-set, max, nat_lt, set, slice_get, refl, sym, ◌∙◌, ap, subst, arith}
+use Rattle.std.proofs.Common.{◌≡◌, ◌≢◌, ◌⊎◌, inl, inr, ⊎_elim, ℕ, ◌*◌, ◌<◌, ◌≤◌, ◌==◌, ◌||◌, Bool, true, false, if◌then◌else◌, List, Some, length, length-set, max, set, slice_get, sym, ◌∙◌, ap, subst, arith}
 use Rattle.std.proofs.lemmas.Bool.Decides.{eqb_tells}
 use Rattle.tick_units.specs.declared.last_done.LastDone.{LastDone}
 use Rattle.tick_units.specs.declared.switch.Switch.{Switch}
@@ -9,13 +9,13 @@ use Rattle.site_types.specs.declared.heard.Heard.TheVariants.{Alarm}
 use Rattle.site_types.proofs.Done.{lt_true}
 use Rattle.answer_lanes.specs.declared.place_set.PlaceSet.{PlaceSet}
 use Rattle.answer_lanes.specs.Places.{HasNone, IsCleared, SetsPlace, has_place}
-use Rattle.coincidence_rules.proofs.Lists.{get_set, same_place}
+use Rattle.coincidence_rules.proofs.Lists.{get_set}
 use Rattle.coincidence.specs.declared.plain_zone.PlainZone.{PlainZone}
 use Rattle.coincidence.specs.declared.point_watch.PointWatch.{PointWatch}
 use Rattle.coincidence.specs.declared.zone_watch.ZoneWatch.{ZoneWatch}
 use Rattle.coincidence.specs.Parts.{StaysNoted, switch_at, zone_noted}
 use Rattle.coincidence.specs.Places.{GoesOnFrom, HasGoingOn}
-use Rattle.coincidence.specs.PlainZones.{IsSaidAt, IsSettledAt}
+use Rattle.coincidence.specs.PlainZones.{IsSaidAt}
 
 -- what goes on from a tick on goes on from later ones
 pub later_on : (since later : ℕ) (reset : LastDone) (point : PointWatch) (zone : ZoneWatch) → since ≤ later → GoesOnFrom since reset point zone

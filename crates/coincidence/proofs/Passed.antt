@@ -19,7 +19,7 @@ use Rattle.site_types.proofs.Masks.{has_bit-zero}
 use Rattle.coincidence.specs.Changes.{FindsNext, KeepsOthers, PutsFindings, TakesAnswers, TakesAnswerRun}
 use Rattle.coincidence.specs.Stands.{CanTake}
 use Rattle.coincidence.specs.GoingOn.{AllConfirmAgain, telling_of}
-use Rattle.coincidence.specs.Resting.{IsFoundAt, IsPlainAt, IsWithinEight, LeavesPoint, TellsChanging, plain_of}
+use Rattle.coincidence.specs.Resting.{IsFoundAt, IsPlainAt, IsWithinEight, LeavesPoint, TellsChanging}
 use Rattle.coincidence.proofs.Resting.{finds_at_rest, takes_one_at_rest, tells_none_at_rest}
 use Rattle.coincidence.proofs.RunItems.{all_before, before, behind, none_before, one_more, parts_at}
 use Rattle.coincidence.proofs.Turned.{can_next, put_both, put_none, puts_both, puts_none, puts_one, room_held, takes_both, takes_none}

@@ -1,5 +1,5 @@
 -- Alarms that go on in a plain zone: each of them counts, and changes nothing of what is kept of its point.
-use Rattle.std.specs.Prelude.{◌≡◌, [], ◌∷◌, ◌+◌, ◌<◌, ◌≤◌, ℕ, List, Some, slice_get, slice_index_or, true}
+use Rattle.std.specs.Prelude.{◌≡◌, [], ◌∷◌, ◌+◌, ◌<◌, ℕ, List, Some, slice_get, slice_index_or, true}
 use Rattle.site_types.specs.declared.heard.Heard.TheVariants.{Alarm}
 use Rattle.site_types.specs.declared.retained.Retained.{Retained}
 use Rattle.site_types.specs.declared.site.Site.{Site}

@@ -20,8 +20,9 @@ use tick_units::{LastDone, NoMemory, Tick};
 /// Decides which answers of a panel's points confirm and release which of its zones.
 ///
 /// It has no list of answers. Of each point it keeps where its run of counted answers began and how many of
-/// its last answers were silent, of each zone the latest answers of two points, and of each setting one
-/// earlier value: that of the tick in which it was set.
+/// its last answers were silent, of each zone that isn't plain the latest answers of two points, and of each
+/// setting one earlier value: that of the tick in which it was set. Besides it keeps which points' alarms change
+/// nothing of all this.
 #[derive(Drop)]
 pub struct Decide {
     pub(crate) panel: u8,

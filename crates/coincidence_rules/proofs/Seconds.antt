@@ -1,5 +1,5 @@
 -- The latest answer of another point tells whether there is a second one, of each type of zone.
-use Rattle.std.proofs.Common.{◌≡◌, ℕ, ◌+◌, ◌≤◌, max, Bool, true, false, not, List, Some, None, slice_get, is_some, ◌==◌, ◌&&◌, ◌||◌, nat_lt, nat_le, ◌∙◌, ap, arith}
+use Rattle.std.proofs.Common.{◌≡◌, ℕ, ◌+◌, ◌≤◌, max, Bool, true, not, List, Some, None, slice_get, is_some, ◌==◌, ◌&&◌, nat_lt, nat_le, ◌∙◌, ap, arith}
 use Rattle.std.specs.List.{list_any}
 use Rattle.std.proofs.lemmas.Bool.Decides.{nat_tests}
 use Rattle.site_types.specs.declared.site.Site.{Site}

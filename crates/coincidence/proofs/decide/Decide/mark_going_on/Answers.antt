@@ -1,4 +1,4 @@
-use Rattle.std.proofs.Common.{◌≤◌, refl, max, arith}
+use Rattle.std.proofs.Common.{◌≤◌, refl, arith}
 use Rattle.coincidence.proofs.Marked.{later_on, put_in}
 use Rattle.coincidence.proofs.Watched.{point_small}
 use Rattle.coincidence.proofs.decide.Decide.mark_going_on.Goals as goal

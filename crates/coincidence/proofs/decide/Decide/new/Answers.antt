@@ -1,4 +1,4 @@
-use Rattle.std.proofs.Common.{false, length, map, refl, ◌∙◌, ap, subst}
+use Rattle.std.proofs.Common.{false, map, refl, ◌∙◌, ap, subst}
 use Rattle.answer_lanes.specs.Places.{HasFirst}
 use Rattle.coincidence.specs.Parts.{point_from, zone_from}
 use Rattle.coincidence.proofs.Begun.{stands_begun}

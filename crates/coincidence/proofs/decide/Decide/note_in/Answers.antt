@@ -1,5 +1,4 @@
-use Rattle.std.proofs.Common.{◌∷◌, ◌++◌, [], refl, slice_get, sym, ap, subst}
-use Rattle.coincidence.specs.PlainZones.{IsKnown}
+use Rattle.std.proofs.Common.{◌∷◌, ◌++◌, [], slice_get, ap}
 use Rattle.coincidence.proofs.PlainZones.{gone_on, known_marked}
 use Rattle.coincidence.proofs.decide.Decide.note_in.Goals as goal
 

@@ -1,4 +1,4 @@
-use Rattle.std.proofs.Common.{◌≡◌, ◌+◌, ◌<◌, length, get_or, sym, ◌∙◌, ap, subst, arith}
+use Rattle.std.proofs.Common.{◌+◌, ◌<◌, length, get_or, sym, ◌∙◌, ap, subst, arith}
 use Rattle.answer_lanes.specs.Points.{answer_at}
 use Rattle.coincidence.proofs.GoingOn.{bits_among, confirms_again, item_observed, point_of}
 use Rattle.coincidence.proofs.Watched.{number_fits, point_small, zone_small}
