@@ -48,3 +48,8 @@ has_first count byte all places is bits = record {
       (ap (λ xs. slice_index xs (place / 8)) is ∙ get_or-replicate (count / 8 + 1) (place / 8) byte 0 (omega (arith, small)))
       ∙ bits (place % 8) (omega arith);
 }
+
+-- so many first bytes are cleared
+pub record AreCleared (old bytes : List ℕ) (count : ℕ) : Type 0 where
+  pub size : length bytes ≡ length old
+  pub none : (k : ℕ) → k < count → slice_index bytes k ≡ 0

@@ -1,5 +1,5 @@
 -- Sets of places.
-use Rattle.std.specs.Prelude.{◌≡◌, ◌≢◌, ◌+◌, ◌*◌, ◌/◌, ◌%◌, ◌<◌, ◌≤◌, ℕ, Bool, length, slice_index}
+use Rattle.std.specs.Prelude.{◌≡◌, ◌≢◌, ◌+◌, ◌*◌, ◌/◌, ◌%◌, ◌<◌, ◌≤◌, ℕ, Bool, false, length, slice_index}
 use Rattle.site_types.specs.Bits.{has_bit}
 use Rattle.answer_lanes.specs.declared.place_set.PlaceSet.{PlaceSet}
 
@@ -21,3 +21,12 @@ pub record SetsPlace (place : ℕ) (on : Bool) (old new' : PlaceSet) : Type 0 wh
 -- the bits of a byte are eight places of a set, from the first one on
 abbrev pub AreEight : PlaceSet → ℕ → ℕ → Type 0
 AreEight set first byte = (k : ℕ) → k < 8 → has_bit byte k ≡ has_place set (first + k)
+
+-- a set has no place
+abbrev pub HasNone : PlaceSet → Type 0
+HasNone set = (place : ℕ) → has_place set place ≡ false
+
+-- all places were taken out of a set
+pub record IsCleared (old new' : PlaceSet) : Type 0 where
+  pub room : length new'.bytes.items ≡ length old.bytes.items
+  pub none : HasNone new'

@@ -1,4 +1,4 @@
-ghost use Rattle.std.specs.Prelude.{◌≡◌, ℕ};
+ghost use Rattle.std.specs.Prelude.{◌≡◌, ◌+◌, ◌<◌, ℕ};
 ghost use Rattle.answer_lanes.specs.Points.{answer_at, heard_at};
 ghost use Rattle.coincidence_rules.specs.Counted.{is_silent};
 ghost use Rattle.site_types.specs.Bits.{has_bit};
@@ -30,6 +30,13 @@ impl AnswerGroup {
             ≡ is_silent (heard_at self.now.alarms self.now.silents k) }
     {
         without(self.silents, self.alarms)
+    }
+
+    /// Which of eight answers, from the one at a place on, are alarms, a bit for each.
+    pub fn alarms_from(&self, from: u8) -> u8
+        ensures { (k : ℕ) → k < 8 → has_bit result k ≡ has_bit self.now.alarms (from + k) }
+    {
+        bits_within(self.alarms, from, 8)
     }
 
     /// Which of eight answers, from the one at a place on, are quiet where the first bits say so, or silent where the

@@ -12,7 +12,7 @@ pub struct PlaceSet {
 }
 
 impl PlaceSet {
-    ghost use Rattle.answer_lanes.specs.Places.{AreEight, HasFirst, SetsPlace};
+    ghost use Rattle.answer_lanes.specs.Places.{AreEight, HasFirst, IsCleared, SetsPlace};
 
     /// A set that has all of the first places, so many, or none of them.
     pub fn first(alloc: Global, count: usize, all: bool) -> Result<PlaceSet, NoMemory>
@@ -30,6 +30,15 @@ impl PlaceSet {
     {
         let byte = &mut self.bytes[place / 8];
         *byte = with_bit_8(*byte, (place % 8) as u8, on);
+    }
+
+    /// Takes all places out.
+    pub fn clear(&mut self)
+        ensures { IsCleared self.old self.new }
+    {
+        for number in 0..self.bytes.len() {
+            self.bytes[number] = 0;
+        }
     }
 
     /// Which of the eight places from one on it has, a bit for each.

@@ -1,6 +1,6 @@
 -- What is kept after an operation stands for one more operation.
 use Rattle.std.proofs.Common.{◌≡◌, ℕ, suc, ◌<◌, ◌≤◌, Bool, true, false, not, List, [], ◌∷◌, length, Option, Some}
-use Rattle.std.proofs.Common.{None, slice_get, get_or, ◌==◌, ◌&&◌, ◌||◌, nat_lt, if◌then◌else◌, refl, sym, ◌∙◌, ap}
+use Rattle.std.proofs.Common.{None, slice_get, get_or, ◌==◌, ◌&&◌, nat_lt, if◌then◌else◌, refl, sym, ◌∙◌, ap}
 use Rattle.std.proofs.Common.{subst, arith}
 use Rattle.tick_units.specs.declared.tick.Tick.{Tick}
 use Rattle.tick_units.specs.declared.switch.Switch.{Switch}
@@ -15,7 +15,7 @@ use Rattle.site_types.specs.Done.{Done, Setting, PointOff, ZoneOff, InTest, is_o
 use Rattle.site_types.proofs.Done.{lt_true, blocked-later, floor-yet}
 use Rattle.coincidence_rules.specs.Counted.{is_alarm, is_counted}
 use Rattle.coincidence_rules.specs.Places.{is_of, is_detector}
-use Rattle.coincidence_rules.specs.Kept.{run_then, run_of, latest_besides, is_type_C, may_pair}
+use Rattle.coincidence_rules.specs.Kept.{run_then, run_of, latest_besides, makes_pairs, may_pair}
 use Rattle.coincidence.specs.declared.point_watch.PointWatch.{PointWatch}
 use Rattle.coincidence.specs.declared.zone_watch.ZoneWatch.{ZoneWatch}
 use Rattle.coincidence.specs.declared.decide.Decide.{Decide}
@@ -24,6 +24,9 @@ use Rattle.tick_units.specs.LastTicks.{last_if}
 use Rattle.coincidence.specs.Stands.{resets, moves, set_in, TellsSetting, WatchesPoint, WatchesZone, IsOwnZone, DecidesFor}
 use Rattle.coincidence_rules.proofs.LastDone.{told_last}
 use Rattle.coincidence_rules.specs.Applied.{NoneIn, TellsLast}
+use Rattle.answer_lanes.specs.declared.place_set.PlaceSet.{PlaceSet}
+use Rattle.answer_lanes.specs.Places.{HasNone}
+use Rattle.coincidence.proofs.Marked.{none_going}
 use Rattle.coincidence.specs.Premises.{IsOwn, MayApply}
 use Rattle.coincidence.proofs.Watched.{read_is, watched, watched_zone}
 
@@ -106,7 +109,7 @@ module _ (site : Site) (kept : Retained) (done : List Done) (at : Tick) (panel :
       besides_yet zone rule point (if may_pair site kept done zone rule x && not (x.point == point) then Some x.stamp else stamp) xs
       (λ k a is. late (suc k) a is)
       ∙ ap (λ b. latest_besides (may_pair site kept (done_now at panel operation ∷ done) zone rule) point
-      (if (is_of site zone x.point && (b && (is_type_C rule || is_detector site x.point))) && not (x.point == point) then Some x.stamp else stamp)
+      (if (is_of site zone x.point && (b && makes_pairs rule (is_detector site x.point))) && not (x.point == point) then Some x.stamp else stamp)
       xs) (sym (counted_yet x (late 0 x refl)))
 
   module _ (taken : List Answer) (late : (k : ℕ) (a : Answer) → slice_get taken k ≡ Some a → a.stamp.0 ≤ at.0) (before : (setting : Setting)
@@ -145,11 +148,13 @@ pub record IsAfter (at : Tick) (panel : ℕ) (operation : Operation) (old next :
   pub zones : (place : ℕ) (watch : ZoneWatch) → slice_get next.zones.items place ≡ Some watch
       → (was : ZoneWatch) × (slice_get old.zones.items place ≡ Some was) × (watch ≡ zone_then at panel operation place was)
   pub reset : next.reset ≡ last_if (resets panel (done_now at panel operation)) at old.reset
+  pub going_on : next.going_on ≡ old.going_on
 
 pub stands_after : (site : Site) (kept : Retained) (panel : ℕ) (done : List Done) (taken : List Answer) (old next : Decide) (at : Tick) (operation :
     Operation) → DecidesFor site kept panel done taken old → MayApply site panel done taken operation at.0
-    → IsAfter at panel operation old next → DecidesFor site kept panel (done_now at panel operation ∷ done) taken next
-stands_after site kept panel done taken old next at operation stands may after =
+    → HasNone old.going_on → IsAfter at panel operation old next
+    → DecidesFor site kept panel (done_now at panel operation ∷ done) taken next
+stands_after site kept panel done taken old next at operation stands may none after =
     let before = λ (setting : Setting) (e : is_on setting (done_now at panel operation) ≡ true).
     set_before at.0 setting done may.next.from_one may.next.since (may.next.once setting e) in
     record {
@@ -170,6 +175,11 @@ stands_after site kept panel done taken old next at operation stands may after =
       reset =
           subst (TellsLast (resets panel) (done_now at panel operation ∷ done)) (sym after.reset)
           (told_last (resets panel) (done_now at panel operation) done at old.reset _ refl refl may.next.since stands.reset);
+      going_on =
+          let points = after.point_count in
+          let places = ap (λ (o : PlaceSet). length o.bytes.items) after.going_on in
+          let room = stands.going_on.room in
+          none_going next.going_on (omega (arith, points, places, room)) (subst HasNone (sym after.going_on) none);
       order = stands.order;
       own = stands.own;
     }

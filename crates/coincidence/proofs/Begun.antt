@@ -14,6 +14,8 @@ use Rattle.coincidence_rules.proofs.ValidWired.{wired_of}
 use Rattle.coincidence.specs.declared.decide.Decide.{Decide}
 use Rattle.coincidence.specs.Parts.{switch_begun, point_from, zone_from}
 use Rattle.tick_units.specs.LastTicks.{never_done}
+use Rattle.answer_lanes.specs.Places.{HasFirst}
+use Rattle.coincidence_rules.proofs.Lists.{get_small}
 use Rattle.coincidence.specs.Stands.{TellsSetting, WatchesPoint, WatchesZone, DecidesFor}
 use Rattle.coincidence_rules.specs.Applied.{TellsLast}
 
@@ -70,8 +72,8 @@ module _ (site : Site) (kept : Retained) where
 
   pub stands_begun : IsValid site → (panel : ℕ) (decide : Decide) → decide.panel ≡ panel → decide.points ≡ map (point_from kept) site.points
       → decide.zones.items ≡ map (zone_from kept) site.zones → decide.reset ≡ never_done
-      → DecidesFor site kept panel [] [] decide
-  stands_begun valid panel decide at points zones reset = record {
+      → HasFirst (length site.points) false decide.going_on → DecidesFor site kept panel [] [] decide
+  stands_begun valid panel decide at points zones reset none = record {
     wired = wired_of site valid;
     at = at;
     point_count = ap length points ∙ length_map (point_from kept) site.points;
@@ -85,6 +87,12 @@ module _ (site : Site) (kept : Retained) where
         (sym (get_map (zone_from kept) site.zones place zone watch (ap (λ xs. slice_get xs place) (sym zones) ∙ there) is))
         (zone_begins place zone is);
     reset = subst (TellsLast _ []) (sym reset) (told_never _);
+    going_on =
+        let count = ap length points ∙ length_map (point_from kept) site.points in record {
+          room = let room = none.room in omega (arith, count, room);
+          all = λ place point zone has there zone_there.
+              absurd (let small = get_small decide.points place point there in let no' = none.is place (omega (arith, small, count)) in cc);
+        };
     order = record { rising = λ i j a b le f g. cc; once = λ i j a b f g p s. cc };
     own = λ k a is. cc;
   }

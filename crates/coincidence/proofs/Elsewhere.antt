@@ -17,7 +17,7 @@ use Rattle.site_types.specs.Valid.{HasZone}
 use Rattle.site_types.specs.Done.{Done, Setting, PointOff, ZoneOff, InTest, is_on, in_force, is_floor, moves_floor, floor_before, cancels, is_zone_blocked}
 use Rattle.coincidence_rules.specs.Places.{is_of, is_detector}
 use Rattle.coincidence_rules.specs.Counted.{is_alarm, is_counted}
-use Rattle.coincidence_rules.specs.Kept.{run_then, run_of, latest_besides, is_type_C, may_pair}
+use Rattle.coincidence_rules.specs.Kept.{run_then, run_of, latest_besides, makes_pairs, may_pair}
 use Rattle.coincidence_rules.proofs.Elsewhere.{IsElsewhere, force_same, latest_same, last_same}
 use Rattle.coincidence.specs.declared.decide.Decide.{Decide}
 use Rattle.coincidence.specs.Premises.{IsOwn}
@@ -93,7 +93,7 @@ module _ (site : Site) (kept : Retained) (panel : ℕ) (done : List Done) (d : D
     besides_same zone rule point stamp (x ∷ xs) own =
         besides_same zone rule point (if may_pair site kept done zone rule x && not (x.point == point) then Some x.stamp else stamp) xs
         (λ k a h. own (suc k) a h)
-        ∙ ap (λ b. latest_besides (may_pair site kept (d ∷ done) zone rule) point (if (is_of site zone x.point && (b && (is_type_C rule || is_detector site x.point))) && not (x.point == point) then Some x.stamp else stamp) xs) (sym (counted_same x (own 0 x refl)))
+        ∙ ap (λ b. latest_besides (may_pair site kept (d ∷ done) zone rule) point (if (is_of site zone x.point && (b && makes_pairs rule (is_detector site x.point))) && not (x.point == point) then Some x.stamp else stamp) xs) (sym (counted_same x (own 0 x refl)))
 
   pub stands_elsewhere : (taken : List Answer) (decide : Decide) → DecidesFor site kept panel done taken decide
       → DecidesFor site kept panel (d ∷ done) taken decide
@@ -126,6 +126,7 @@ module _ (site : Site) (kept : Retained) (panel : ℕ) (done : List Done) (d : D
           recent = λ point. w.recent point ∙ besides_same h.wired.zoned place zone.rule point None taken h.own;
         };
     reset = last_same done d (resets panel) decide.reset reset_not h.reset;
+    going_on = h.going_on;
     order = h.order;
     own = h.own;
   }

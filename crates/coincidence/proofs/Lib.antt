@@ -8,8 +8,10 @@ pub mod ConfirmedZones
 pub mod Masked
 pub mod FindingIs
 pub mod TakenAnswer
+pub mod Marked
 pub mod PlainAlarms
 pub mod PlainZones
+pub mod GoingOn
 pub mod Turned
 pub mod PlaceSets
 pub mod Resting

@@ -24,7 +24,10 @@ use Rattle.coincidence.specs.declared.zone_watch.ZoneWatch.{ZoneWatch}
 use Rattle.coincidence.specs.declared.decide.Decide.{Decide}
 use Rattle.coincidence.specs.Parts.{switch_after}
 use Rattle.tick_units.specs.LastTicks.{last_after, last_if}
-use Rattle.coincidence.specs.Stands.{resets, IsOwnZone, DecidesFor, off_operation}
+use Rattle.answer_lanes.specs.declared.place_set.PlaceSet.{PlaceSet}
+use Rattle.answer_lanes.specs.Places.{HasNone, IsCleared}
+use Rattle.coincidence.proofs.Marked.{cleared_going}
+use Rattle.coincidence.specs.Stands.{resets, CanApply, IsOwnZone, DecidesFor, off_operation}
 use Rattle.coincidence.specs.Premises.{IsOwn, MayApply}
 use Rattle.coincidence.proofs.AppliedOperation.{done_now, point_then, zone_then, IsAfter, stands_after}
 
@@ -86,6 +89,7 @@ module _ (at : Tick) (panel : ℕ) (operation : Operation) where
       points = λ place watch there. (watch, there, sym (idle.0 place watch));
       zones = λ place watch there. (watch, there, sym (idle.1 place watch));
       reset = sym (ap (λ b. last_if b at decide.reset) idle.2);
+      going_on = refl;
     }
 
     zone_after : (z : ℕ) (x y : ZoneWatch) (change : Bool → Bool → ZoneWatch → ZoneWatch) → ChangesZone z change → z < length decide.zones.items
@@ -101,6 +105,7 @@ module _ (at : Tick) (panel : ℕ) (operation : Operation) where
           (λ k w apart.
           h.is k w ∙ ap (λ b. change b (z == k) w) (ne_eqb k z apart) ∙ ap (λ b. change false b w) (ne_eqb z k (λ e. apart (sym e))) ∙ h.nothing w);
       reset = sym (ap (λ b. last_if b at decide.reset) h.no_reset);
+      going_on = refl;
     }
 
     point_after : (p : ℕ) (x y : PointWatch) (change : Bool → PointWatch → PointWatch) → ChangesPoint p change → p < length decide.points
@@ -115,6 +120,7 @@ module _ (at : Tick) (panel : ℕ) (operation : Operation) where
           (λ k w apart. h.is k w ∙ ap (λ b. change b w) (ne_eqb k p apart) ∙ h.nothing w);
       zones = λ place watch there. (watch, there, sym (h.zones place watch));
       reset = sym (ap (λ b. last_if b at decide.reset) h.no_reset);
+      going_on = refl;
     }
 
 reset_after : (at : Tick) (panel : ℕ) (decide : Decide) (reset : LastDone) → reset ≡ last_after at decide.reset
@@ -126,6 +132,7 @@ reset_after at panel decide reset e = record {
   points = λ place watch there. (watch, there, refl);
   zones = λ place watch there. (watch, there, refl);
   reset = e ∙ sym (ap (λ b. last_if b at decide.reset) (eq-eqb panel panel refl));
+  going_on = refl;
 }
 
 -- an operation of one of these kinds is idle, and one on an output
@@ -214,6 +221,37 @@ module _ {site : Site} {kept : Retained} {panel : ℕ} {done : List Done} {taken
   own_point_small : (p : ℕ) → IsOwn site panel p → p < length decide.points
   own_point_small p own = subst (λ n. p < n) (sym stands.point_count) (get_small site.points p own.point own.is)
 
+-- the part without the points whose alarms go on
+pub forgotten : {site : Site} {kept : Retained} {panel : ℕ} {done : List Done} {taken : List Answer} {decide : Decide}
+    → DecidesFor site kept panel done taken decide → (g : PlaceSet) → IsCleared decide.going_on g
+    → DecidesFor site kept panel done taken (record decide { going_on = g })
+forgotten h g cleared = record {
+  wired = h.wired;
+  at = h.at;
+  point_count = h.point_count;
+  zone_count = h.zone_count;
+  points = h.points;
+  zones = h.zones;
+  reset = h.reset;
+  going_on = cleared_going g h.going_on cleared;
+  order = h.order;
+  own = h.own;
+}
+
+pub can_forget : (decide : Decide) (operation : Operation) (tick : ℕ) (g : PlaceSet) → IsCleared decide.going_on g → CanApply decide operation tick
+    → CanApply (record decide { going_on = g }) operation tick
+can_forget decide operation tick g cleared can = record {
+  site = can.site;
+  kept = can.kept;
+  panel = can.panel;
+  done = can.done;
+  taken = can.taken;
+  stands = forgotten can.stands g cleared;
+  may = can.may;
+}
+
+module _ {site : Site} {kept : Retained} {panel : ℕ} {done : List Done} {taken : List Answer} {decide : Decide} (stands :
+    DecidesFor site kept panel done taken decide) (at : Tick) (none : HasNone decide.going_on) where
   -- the operation as it is read
   as_read : (operation one : Operation) (next : Decide) → operation ≡ one → MayApply site panel done taken operation at.0
       → (MayApply site panel done taken one at.0 → IsAfter at panel one decide next)
@@ -221,14 +259,14 @@ module _ {site : Site} {kept : Retained} {panel : ℕ} {done : List Done} {taken
   as_read operation one next e may after =
       let here = subst (λ o. MayApply site panel done taken o at.0) e may in
       subst (λ o. DecidesFor site kept panel (done_now at panel o ∷ done) taken next) (sym e)
-      (stands_after site kept panel done taken decide next at one stands here (after here))
+      (stands_after site kept panel done taken decide next at one stands here none (after here))
 
   module _ (operation : Operation) (may : MayApply site panel done taken operation at.0) where
     abbrev StandsNext : Decide → Type 0
     StandsNext next = DecidesFor site kept panel (done_now at panel operation ∷ done) taken next
 
     pub idle_stands : IsIdle at panel operation → StandsNext decide
-    idle_stands idle = stands_after site kept panel done taken decide decide at operation stands may (idle_after at panel operation decide idle)
+    idle_stands idle = stands_after site kept panel done taken decide decide at operation stands may none (idle_after at panel operation decide idle)
 
     pub reset_stands : (reset : LastDone) → operation ≡ Reset → reset ≡ last_after at decide.reset → StandsNext (record decide { reset = reset })
     reset_stands reset e new = as_read operation Reset _ e may (λ m. reset_after at panel decide reset new)
@@ -237,12 +275,12 @@ module _ {site : Site} {kept : Retained} {panel : ℕ} {done : List Done} {taken
       pub cancel_stands : operation ≡ Cancel z → y ≡ record x { cancelled = last_after at x.cancelled } → StandsNext (with_zone decide z y)
       cancel_stands e new =
           as_read operation (Cancel z) _ e may (λ m. zone_after at panel (Cancel z) decide z x y (cancelled_if at) (cancel_changes at panel z)
-          (own_small z (own_zone site panel z m.own)) read new)
+          (own_small stands at z (own_zone site panel z m.own)) read new)
 
       test_read : (on : Bool) → operation ≡ test_operation at panel z on → y ≡ tested_if at on true true x → StandsNext (with_zone decide z y)
       test_read on e new =
           as_read operation (test_operation at panel z on) _ e may (λ m. zone_after at panel (test_operation at panel z on) decide z x y
-          (tested_if at on) (test_changes at panel z on) (own_small z (own_tested on m.own)) read new)
+          (tested_if at on) (test_changes at panel z on) (own_small stands at z (own_tested on m.own)) read new)
         where
           own_tested : (on : Bool) → has_operands site panel (test_operation at panel z on) ≡ true → IsOwnZone site panel z
           own_tested true h = own_zone site panel z h
@@ -265,7 +303,7 @@ module _ {site : Site} {kept : Retained} {panel : ℕ} {done : List Done} {taken
     zone_off_stands z x y e read new =
         as_read (off_operation off item) (off_operation off (Zone z)) _ (ap (off_operation off) e) may
         (λ m. zone_after at panel (off_operation off (Zone z)) decide z x y (off_if at off) (off_changes at panel z off)
-        (own_small z (own_zone_off site panel off z m.own)) read (new ∙ ap (λ b. record x { off = switch_after off at x.off; moved = last_if b at x.moved }) (both off)))
+        (own_small stands at z (own_zone_off site panel off z m.own)) read (new ∙ ap (λ b. record x { off = switch_after off at x.off; moved = last_if b at x.moved }) (both off)))
       where
         both : (b : Bool) → b ≡ (b && true)
         both true = refl
@@ -276,7 +314,7 @@ module _ {site : Site} {kept : Retained} {panel : ℕ} {done : List Done} {taken
     point_off_stands p x e read =
         as_read (off_operation off item) (off_operation off (Point p)) _ (ap (off_operation off) e) may
         (λ m. point_after at panel (off_operation off (Point p)) decide p x _ (point_off_if at off) (point_off_changes at panel p off)
-        (own_point_small p (own_point_off site panel off p m.own)) read refl)
+        (own_point_small stands at p (own_point_off site panel off p m.own)) read refl)
 
     pub output_off_stands : (output : ℕ) → item ≡ Output output → StandsOff decide
     output_off_stands output e =

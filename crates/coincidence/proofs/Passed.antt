@@ -1,5 +1,5 @@
 -- Answers of a run that leave all that is kept as it is are passed over, and their findings are plain.
-use Rattle.std.proofs.Common.{◌≡◌, ◌≢◌, ℕ, zero, suc, ◌+◌, ◌-◌, ◌<◌, ◌≤◌, ◌∷◌, ◌++◌, ◌^◌, [], inl, inr, List, length, map, min, true, false, refl, sym, ◌∙◌, ap, subst, arith}
+use Rattle.std.proofs.Common.{◌≡◌, ◌≢◌, ℕ, zero, suc, ◌+◌, ◌-◌, ◌<◌, ◌≤◌, ◌∷◌, ◌++◌, ◌^◌, [], inl, inr, Bool, List, length, map, min, true, false, refl, sym, ◌∙◌, ap, subst, arith}
 use Rattle.std.proofs.lemmas.List.FromFn.{map-range_with_len_more}
 use Rattle.std.specs.List.{range_with_len}
 use Rattle.tick_units.specs.Lane.{HasRoom, LaneState, with_put}
@@ -18,8 +18,9 @@ use Rattle.site_types.proofs.Done.{lt_tells}
 use Rattle.site_types.proofs.Masks.{has_bit-zero}
 use Rattle.coincidence.specs.Changes.{FindsNext, KeepsOthers, PutsFindings, TakesAnswers, TakesAnswerRun}
 use Rattle.coincidence.specs.Stands.{CanTake}
-use Rattle.coincidence.specs.Resting.{IsFoundAt, IsPlainAt, IsWithinEight, LeavesPoint, TellsChanging, plain_of}
-use Rattle.coincidence.proofs.Resting.{finds_at_rest, takes_one_at_rest}
+use Rattle.coincidence.specs.GoingOn.{AllConfirmAgain, telling_of}
+use Rattle.coincidence.specs.Resting.{IsFoundAt, IsPlainAt, IsWithinEight, LeavesPoint, TellsChanging}
+use Rattle.coincidence.proofs.Resting.{finds_at_rest, takes_one_at_rest, tells_none_at_rest}
 use Rattle.coincidence.proofs.RunItems.{all_before, before, behind, none_before, one_more, parts_at}
 use Rattle.coincidence.proofs.Turned.{can_next, put_both, put_none, puts_both, puts_none, puts_one, room_held, takes_both, takes_none}
 
@@ -33,38 +34,47 @@ module _ (old now : Decide) (run : Run AnswerGroup) (lane held : LaneState Findi
     pub taken : TakesAnswers old (before run place) now
     pub put : PutsFindings old (before run place) lane (with_put held (told place))
 
-  told_more : (place : ℕ) → begun ≤ place → IsPlainAt place run.first first → told (place + 1) ≡ told place ++ plain_of (answer_at run.first place) ∷ []
-  told_more place from plain =
+  -- an answer at a place leaves all that is kept as it is, and what is told of it there is its finding
+  abbrev pub IsStill : ℕ → Type 0
+  IsStill place =
+      TakesAnswers now (answer_at run.first place ∷ []) now × FindsNext now (answer_at run.first place) (finding_at first place)
+
+  told_more : (place : ℕ) → begun ≤ place → told (place + 1) ≡ told place ++ finding_at first place ∷ []
+  told_more place from =
       let count : place + 1 - begun ≡ place - begun + 1 = omega (arith, from) in
       let at : begun + (place - begun) ≡ place = omega (arith, from) in
       ap (λ n. map (finding_at first) (range_with_len begun n)) count
-      ∙ map-range_with_len_more (finding_at first) begun (place - begun) place at ∙ ap (λ f. told place ++ f ∷ []) plain
+      ∙ map-range_with_len_more (finding_at first) begun (place - begun) place at
 
-  pass_one : (place : ℕ) → run.taken ≤ place → begun ≤ place → LeavesPoint now (answer_at run.first place) → IsPlainAt place run.first first
-      → AreDone place → AreDone (place + 1)
-  pass_one place from since leaves_point plain h =
+  pass_one : (place : ℕ) → run.taken ≤ place → begun ≤ place → IsStill place → AreDone place → AreDone (place + 1)
+  pass_one place from since still h =
       let item = answer_at run.first place in
+      let found = finding_at first place in
       let more = one_more run place item from refl in
-      let next : with_put held (told (place + 1)) ≡ with_put (with_put held (told place)) (plain_of item ∷ []) =
-      ap (with_put held) (told_more place since plain) ∙ sym (put_both held (told place) (plain_of item ∷ [])) in
+      let next : with_put held (told (place + 1)) ≡ with_put (with_put held (told place)) (found ∷ []) =
+      ap (with_put held) (told_more place since) ∙ sym (put_both held (told place) (found ∷ [])) in
       record {
         taken = subst (λ xs. TakesAnswers old xs now) (sym more)
-            (takes_both old now now (before run place) (item ∷ []) h.taken (takes_one_at_rest now item leaves_point));
+            (takes_both old now now (before run place) (item ∷ []) h.taken still.0);
         put = subst (λ xs. PutsFindings old xs lane (with_put held (told (place + 1)))) (sym more)
             (puts_both old now (before run place) (item ∷ []) lane (with_put held (told place)) (with_put held (told (place + 1))) h.taken h.put
-            (puts_one now item (plain_of item) (with_put held (told place)) (with_put held (told (place + 1))) (finds_at_rest now item leaves_point) next));
+            (puts_one now item found (with_put held (told place)) (with_put held (told (place + 1))) still.1 next));
       }
 
-  pub pass : (count from to : ℕ) → to ≡ from + count → run.taken ≤ from → begun ≤ from
-      → ((k : ℕ) → from ≤ k → k < to → LeavesPoint now (answer_at run.first k)) → ((k : ℕ) → from ≤ k → k < to → IsPlainAt k run.first first)
+  pub pass : (count from to : ℕ) → to ≡ from + count → run.taken ≤ from → begun ≤ from → ((k : ℕ) → from ≤ k → k < to → IsStill k)
       → AreDone from → AreDone to
-  pass zero from to is least since leaves_points plain h =
+  pass zero from to is least since stills h =
       let same : from ≡ to = omega (arith, is) in
       subst AreDone same h
-  pass (suc count) from to is least since leaves_points plain h =
+  pass (suc count) from to is least since stills h =
       pass count (from + 1) to (omega (arith, is)) (omega (arith, least)) (omega (arith, since))
-      (λ k le less. leaves_points k (omega (arith, le)) less) (λ k le less. plain k (omega (arith, le)) less)
-      (pass_one from least since (leaves_points from (omega arith) (omega (arith, is))) (plain from (omega arith) (omega (arith, is))) h)
+      (λ k le less. stills k (omega (arith, le)) less) (pass_one from least since (stills from (omega arith) (omega (arith, is))) h)
+
+  -- one of a point that it leaves as it is, where what is told of it is plain
+  pub still_at : (place : ℕ) → LeavesPoint now (answer_at run.first place) → IsPlainAt place run.first first → IsStill place
+  still_at place leaves_point plain =
+      let item = answer_at run.first place in
+      (takes_one_at_rest now item leaves_point, subst (FindsNext now item) (sym plain) (finds_at_rest now item leaves_point))
 
 -- an answer of another point leaves a point as it is
 leaves_after : (old decide : Decide) (place : ℕ) (answer : Answer) → KeepsOthers place old decide → answer.point ≢ place → LeavesPoint old answer
@@ -130,9 +140,11 @@ module _ {old now : Decide} {run : Run AnswerGroup} {lane held : LaneState Findi
       (omega arith)
       (λ k le less.
       let at : run.taken + (k - run.taken) ≡ k = omega (arith, least, le) in
-      subst (λ n. LeavesPoint now (answer_at run.first n)) at
+      still_at old now run lane held found.first found.taken k
+      (subst (λ n. LeavesPoint now (answer_at run.first n)) at
       (h.left (k - run.taken) (omega (arith, least, le)) (omega (arith, least, le, less, to)) (clear (k - run.taken) (omega (arith, at, less)) (omega (arith, at, le)))))
-      (λ k le less. h.plain k le) done_here
+      (h.plain k le))
+      done_here
 
   ended : changing ≡ 0 → AreDone old now run lane held found.first found.taken (run.taken + run.count)
   ended none = on_to (run.taken + run.count) h.most (omega arith) (λ k less le. ap (λ m. has_bit m k) none ∙ has_bit-zero k)
@@ -256,3 +268,43 @@ still_run old run lane after first changing plain tells none put =
       put = subst (PutsFindings old (items_of answer_at run) lane)
           (sym (put ∙ ap (λ n. with_put lane (map (finding_at first) (range_with_len run.taken n))) count)) (all_found h none);
     }
+
+-- of a run of which each answer changes nothing or goes on the findings are told in one step
+pub going_run : (old : Decide) (run : Run AnswerGroup) (lane after : LaneState Finding) (first : FindingGroup) (changing zones : ℕ)
+    → ((k : ℕ) → finding_at first k ≡ telling_of zones (answer_at run.first k)) → TellsChanging old run changing → AllConfirmAgain old run changing zones
+    → after ≡ with_put lane (map (finding_at first) (range_with_len run.taken run.count))
+    → TakesAnswerRun old run lane old after
+going_run old run lane after first changing zones told_is tells again put =
+    let end = run.taken + run.count in
+    let count : run.count ≡ end - run.taken = omega arith in
+    let none : run.taken - run.taken ≡ 0 = omega arith in
+    let nothing : [] ≡ map (finding_at first) (range_with_len run.taken (run.taken - run.taken)) =
+    ap (λ n. map (finding_at first) (range_with_len run.taken n)) (sym none) in
+    let begins : AreDone old old run lane lane first run.taken run.taken = record {
+      taken = subst (λ xs. TakesAnswers old xs old) (sym (none_before run)) (takes_none old);
+      put = subst (λ xs. PutsFindings old xs lane (with_put lane (told old old run lane lane first run.taken run.taken))) (sym (none_before run))
+          (subst (λ fs. PutsFindings old [] lane (with_put lane fs)) nothing (subst (PutsFindings old [] lane) (put_none lane) (puts_none old lane)));
+    } in
+    let done = pass old old run lane lane first run.taken run.count run.taken end refl (omega arith) (omega arith)
+    (λ k le less.
+    let at : run.taken + (k - run.taken) ≡ k = omega (arith, le) in
+    subst (IsStill old old run lane lane first run.taken) at (each (k - run.taken) (omega (arith, le, less)))) begins in
+    record {
+      taken = subst (λ xs. TakesAnswers old xs old) (all_before run end refl) done.taken;
+      put = subst (PutsFindings old (items_of answer_at run) lane)
+          (sym (put ∙ ap (λ n. with_put lane (map (finding_at first) (range_with_len run.taken n))) count))
+          (subst (λ xs. PutsFindings old xs lane (with_put lane (told old old run lane lane first run.taken end))) (all_before run end refl) done.put);
+    }
+  where
+    by : (k : ℕ) → k < run.count → (b : Bool) → has_bit changing k ≡ b → IsStill old old run lane lane first run.taken (run.taken + k)
+    by k small true is =
+        let item = answer_at run.first (run.taken + k) in
+        let one = again k small is in
+        (one.taken, subst (FindsNext old item) (sym (told_is (run.taken + k))) one.found)
+    by k small false is =
+        let item = answer_at run.first (run.taken + k) in
+        let leaves_point = tells.left k small is in
+        (takes_one_at_rest old item leaves_point, subst (FindsNext old item) (sym (told_is (run.taken + k))) (tells_none_at_rest old item leaves_point zones))
+
+    each : (k : ℕ) → k < run.count → IsStill old old run lane lane first run.taken (run.taken + k)
+    each k small = by k small (has_bit changing k) refl

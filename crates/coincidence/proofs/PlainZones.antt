@@ -6,6 +6,8 @@ use Rattle.site_types.specs.declared.site.Site.{Site}
 use Rattle.site_types.specs.declared.answer.Answer.{Answer}
 use Rattle.site_types.specs.declared.retained.Retained.{Retained}
 use Rattle.site_types.specs.Changes.{IsNumber}
+use Rattle.site_types.specs.declared.rule.Rule.{Rule}
+use Rattle.site_types.specs.declared.rule.Rule.TheVariants.{Plain}
 use Rattle.site_types.specs.Done.{Done}
 use Rattle.site_types.specs.declared.heard.Heard.{Heard}
 use Rattle.site_types.specs.declared.heard.Heard.TheVariants.{Alarm, Quiet, Silent}
@@ -17,7 +19,10 @@ use Rattle.coincidence.specs.declared.point_watch.PointWatch.{PointWatch}
 use Rattle.coincidence.specs.declared.zone_watch.ZoneWatch.{ZoneWatch}
 use Rattle.coincidence.specs.Observations.{Judges}
 use Rattle.std.proofs.lemmas.List.{set-get_or}
-use Rattle.coincidence_rules.specs.Kept.{is_type_C}
+use Rattle.coincidence_rules.specs.Kept.{makes_pairs}
+use Rattle.answer_lanes.specs.declared.place_set.PlaceSet.{PlaceSet}
+use Rattle.coincidence.specs.GoingOn.{MarksGoingOn}
+use Rattle.coincidence.specs.Places.{HasGoingOn}
 use Rattle.coincidence.specs.Premises.{MayTake}
 use Rattle.coincidence.specs.Parts.{point_noted, switch_at, zone_noted}
 use Rattle.coincidence.specs.PlainZones.{RunGoesOn, IsOfPoint, IsSaidAt, KeepsKnown}
@@ -35,13 +40,20 @@ noted_same : (x : ℕ) (reset : LastDone) (zone : PlainZone) (pairs : Bool) (poi
     → IsSaidAt x reset zone watch → IsSaidAt x reset zone (zone_noted pairs point stamp watch)
 noted_same x reset zone false point stamp watch h = h
 noted_same x reset zone true point stamp watch h =
-    record { rule = h.rule; partner = h.partner; number = h.number; blocked = h.blocked; floor = h.floor }
+    record {
+      rule = h.rule;
+      partner = h.partner;
+      number = h.number;
+      blocked = h.blocked;
+      floor = h.floor;
+      settled = λ is. let s = h.settled is in record { last_reset = s.last_reset; moved = s.moved; off = s.off; test = s.test };
+    }
 
 -- what is said of any zone stays so where an answer of a point in a zone is noted
-pub keeps_known : (decide : Decide) (next : List PointWatch) (place : ℕ) (pairs : Bool) (point : ℕ) (stamp : Tick) (z y : ZoneWatch)
+pub keeps_known : (decide : Decide) (next : List PointWatch) (g : PlaceSet) (place : ℕ) (pairs : Bool) (point : ℕ) (stamp : Tick) (z y : ZoneWatch)
     → slice_get decide.zones.items place ≡ Some z → y ≡ zone_noted pairs point stamp z
-    → KeepsKnown decide (record decide { points = next; zones = with_item decide.zones place y })
-keeps_known decide next place pairs point stamp z y there noted x zone h watch at =
+    → KeepsKnown decide (record decide { points = next; zones = with_item decide.zones place y; going_on = g })
+keeps_known decide next g place pairs point stamp z y there noted x zone h watch at =
     ⊎_elim
     (λ here.
     subst (IsSaidAt x decide.reset zone) (sym noted ∙ here.1)
@@ -107,26 +119,47 @@ not_silent Alarm is = refl
 not_silent Quiet is = absurd (cc)
 not_silent Silent is = absurd (cc)
 
--- of an answer of a detector that counts it is noted that it may make a pair
-pairs_counted : (counted other manual : Bool) → manual ≡ false → counted ≡ (counted && (other || not manual))
-pairs_counted false other manual detector = refl
-pairs_counted true true manual detector = refl
-pairs_counted true false manual detector = sym (ap not detector)
+-- in a plain zone no answer makes a pair
+no_pair : (counted detector : Bool) (rule : Rule) → rule ≡ Plain → false ≡ (counted && makes_pairs rule detector)
+no_pair counted detector rule plain = sym (ap (λ q. counted && makes_pairs q detector) plain ∙ none counted)
+  where
+    none : (b : Bool) → (b && false) ≡ false
+    none true = refl
+    none false = refl
 
--- an alarm that leaves what is kept of its point is taken by noting it in its zone
+-- an alarm in a plain zone that leaves what is kept of its point leaves all that is kept
 pub gone_on : {site : Site} {kept : Retained} {panel : ℕ} {done : List Done} {taken : List Answer} {decide : Decide} (stands :
     DecidesFor site kept panel done taken decide) (answer : Answer) → MayTake site panel done taken (answer ∷ []) → (judgement : Judgement)
-    → Judges site kept done answer judgement → (on : RunGoesOn answer judgement decide) → (zone : PlainZone) → IsOfPoint answer decide zone
-    → (z y : ZoneWatch) → z ≡ get_or decide.zones.items zone.zone z → y ≡ zone_noted judgement.counted answer.point answer.stamp z
-    → DecidesFor site kept panel done (taken ++ answer ∷ []) (record decide { zones = with_item decide.zones zone.zone y })
-gone_on {site} {kept} {panel} {done} {taken} {decide} stands answer may judgement judges on zone of z y read noted =
+    → Judges site kept done answer judgement → RunGoesOn answer judgement decide → (zone : PlainZone) → IsOfPoint answer decide zone
+    → DecidesFor site kept panel done (taken ++ answer ∷ []) decide
+gone_on {site} {kept} {panel} {done} {taken} {decide} stands answer may judgement judges on zone of =
     let fits = fits_next site kept panel done taken answer may in
-    let own = of.own on.watch on.read in
-    let here : z ≡ get_or decide.zones.items on.watch.zone z = read ∙ ap (λ k. get_or decide.zones.items k z) own in
+    let s = said_of stands answer fits on.watch on.read zone of in
     let same : decide.points ≡ set decide.points answer.point (point_noted answer.heard judgement.counted judgement.floor answer.stamp on.watch) =
     sym (set-get_or decide.points answer.point on.watch) ∙ ap (set decide.points answer.point) (sym on.read)
     ∙ ap (set decide.points answer.point) (sym (on.stays answer.stamp)) in
-    subst (λ k. DecidesFor site kept panel done (taken ++ answer ∷ []) (record decide { zones = with_item decide.zones k y })) (sym own)
-    (stands_noted stands answer may on.watch z on.read here judgement.counted judgement.floor decide.points y judgement.counted same
-    (pairs_counted judgement.counted (is_type_C z.rule) on.watch.manual on.detector) noted judges.counted
-    (floor_judged stands answer fits on.watch on.read judgement judges))
+    let items : set decide.zones.items on.watch.zone s.watch ≡ decide.zones.items =
+    ap (set decide.zones.items on.watch.zone) s.read ∙ set-get_or decide.zones.items on.watch.zone s.watch in
+    let noted =
+    stands_noted stands answer may on.watch s.watch on.read s.read judgement.counted judgement.floor decide.points s.watch false decide.going_on
+    (subst (HasGoingOn decide.going_on decide.since.0 decide.reset decide.points) (sym items) stands.going_on) same
+    (no_pair judgement.counted (not on.watch.manual) s.watch.rule s.said.rule) refl judges.counted
+    (floor_judged stands answer fits on.watch on.read judgement judges) in
+    record {
+      wired = noted.wired;
+      at = noted.at;
+      point_count = noted.point_count;
+      zone_count = stands.zone_count;
+      points = noted.points;
+      zones = λ place watch zone is. noted.zones place watch zone (ap (λ xs. slice_get xs place) items ∙ is);
+      reset = noted.reset;
+      going_on = stands.going_on;
+      order = noted.order;
+      own = noted.own;
+    }
+
+-- what is known of a zone stays so where no more than the points whose alarms go on is kept anew
+pub known_marked : (old decide : Decide) → MarksGoingOn old decide → KeepsKnown old decide
+known_marked old decide marks x zone known watch at =
+    subst (λ reset. IsSaidAt x reset zone watch) (sym marks.reset)
+    (known watch (ap (λ zones. slice_get zones zone.zone) (sym marks.zones) ∙ at))

@@ -23,17 +23,18 @@ use Rattle.coincidence_rules.specs.Findings.{finding_of}
 use Rattle.answer_lanes.specs.declared.run.Run.{Run}
 use Rattle.answer_lanes.specs.declared.answer_group.AnswerGroup.{AnswerGroup}
 use Rattle.answer_lanes.specs.Groups.{AreMatching, IsMatching}
-use Rattle.answer_lanes.specs.Points.{answer_at}
+use Rattle.answer_lanes.specs.Points.{answer_at, mask_if}
 use Rattle.coincidence.specs.declared.decide.Decide.{Decide}
 use Rattle.coincidence.specs.declared.point_watch.PointWatch.{PointWatch}
 use Rattle.coincidence.specs.Changes.{FindsNext, TakesAnswers}
+use Rattle.coincidence.specs.GoingOn.{telling_of}
 use Rattle.coincidence.specs.Parts.{is_at_rest, leaves_watch, point_noted, silent_then, stays_missing}
 use Rattle.coincidence.specs.Places.{TellsEight}
 use Rattle.coincidence.specs.Premises.{MayTake}
 use Rattle.coincidence.specs.Resting.{IsWithinEight, LeavesPoint, TellsChanging, plain_of}
 use Rattle.coincidence.specs.Stands.{DecidesFor}
 use Rattle.coincidence.proofs.Observations.{fits_last}
-use Rattle.coincidence.proofs.FindingIs.{quiet_is}
+use Rattle.coincidence.proofs.FindingIs.{finding_by, quiet_is}
 use Rattle.coincidence.proofs.TakenAnswer.{quiet_noted}
 
 -- such an answer is no alarm
@@ -87,7 +88,7 @@ module _ {site : Site} {kept : Retained} {panel : ℕ} {done : List Done} {taken
   pub stands_at_rest : DecidesFor site kept panel done (taken ++ answer ∷ []) decide
   stands_at_rest =
       quiet_noted stands answer may (no_alarm_left answer.heard w.watch left) w.watch decide.points read
-      (sym same_points ∙ ap (set decide.points answer.point) (same_watch answer.heard answer.stamp w.watch left))
+      (sym same_points ∙ ap (set decide.points answer.point) (same_watch answer.heard answer.stamp w.watch left)) decide.going_on stands.going_on
 
   pub found_at_rest : plain_of answer ≡ finding_of site kept panel done taken answer
   found_at_rest =
@@ -152,3 +153,13 @@ finds_at_rest decide answer leaves_point site kept panel done taken stands may =
 
 pub takes_one_at_rest : (decide : Decide) (answer : Answer) → LeavesPoint decide answer → TakesAnswers decide (answer ∷ []) decide
 takes_one_at_rest decide answer leaves_point site kept panel done taken stands may = stands_at_rest stands answer may leaves_point
+
+-- whatever zones an alarm would tell of, such an answer tells of none
+pub tells_none_at_rest : (decide : Decide) (answer : Answer) → LeavesPoint decide answer → (zones : ℕ) → FindsNext decide answer (telling_of zones answer)
+tells_none_at_rest decide answer leaves_point zones site kept panel done taken stands may =
+    let w = watched stands answer.point (may.own 0 answer refl) in
+    told_none answer zones (no_alarm_left answer.heard w.watch (leaves_point w.watch w.is_watch)) ∙ found_at_rest stands answer may leaves_point
+  where
+    told_none : (answer : Answer) (zones : ℕ) → is_alarm answer.heard ≡ false → telling_of zones answer ≡ plain_of answer
+    told_none answer zones quiet =
+        ap (λ b. finding_by answer (mask_if b zones) (mask_if b zones) 0 (mask_if b zones) (is_silent answer.heard)) quiet

@@ -1,7 +1,7 @@
 -- What is kept after one more answer stands for one more answer.
 use Rattle.std.proofs.Common.{◌≡◌, ◌≢◌, ◌⊎◌, inl, inr, ⊎_elim, ℕ, zero, suc, ◌+◌, ◌≤◌, Bool, true, false, not, List}
 use Rattle.std.proofs.Common.{[], ◌∷◌, ◌++◌, set, length-set, reverse, filter, Option, Some, None, slice_get, get_or}
-use Rattle.std.proofs.Common.{◌==◌, ◌&&◌, ◌||◌, nat_lt, nat_le, if◌then◌else◌, refl, sym, ◌∙◌, ap, subst, arith}
+use Rattle.std.proofs.Common.{◌==◌, ◌&&◌, nat_lt, nat_le, if◌then◌else◌, refl, sym, ◌∙◌, ap, subst, arith}
 use Rattle.std.proofs.lemmas.Bool.{eq-eqb, ne_eqb}
 use Rattle.std.proofs.lemmas.Bool.Decides.{nat_tests, eqb_tells}
 use Rattle.std.proofs.lemmas.List.{reverse-append, set-get_or}
@@ -22,7 +22,7 @@ use Rattle.site_types.specs.Profile.{missing_askings}
 use Rattle.coincidence_rules.specs.Places.{lies_in, is_of, detects, is_detector}
 use Rattle.coincidence_rules.specs.Counted.{is_alarm, is_silent, is_counted}
 use Rattle.coincidence_rules.specs.Missing.{latest_of, begins_silent}
-use Rattle.coincidence_rules.specs.Kept.{run_then, run_of, latest_besides, is_type_C, may_pair}
+use Rattle.coincidence_rules.specs.Kept.{run_then, run_of, latest_besides, makes_pairs, may_pair}
 use Rattle.coincidence_rules.proofs.Lists.{get_either, get_set, same_place}
 use Rattle.coincidence.specs.declared.point_stamp.PointStamp.{PointStamp}
 use Rattle.coincidence.specs.declared.recent.Recent.{Recent}
@@ -31,6 +31,8 @@ use Rattle.coincidence.specs.declared.zone_watch.ZoneWatch.{ZoneWatch}
 use Rattle.coincidence.specs.declared.decide.Decide.{Decide}
 use Rattle.coincidence.specs.Parts.{stamp_of, besides_by, besides, other_after, noted, silent_then, point_noted, zone_noted}
 use Rattle.coincidence.specs.Changes.{NotesPoint}
+use Rattle.answer_lanes.specs.declared.place_set.PlaceSet.{PlaceSet}
+use Rattle.coincidence.specs.Places.{HasGoingOn}
 use Rattle.coincidence.specs.Stands.{WatchesPoint, WatchesZone, DecidesFor}
 use Rattle.coincidence.specs.Premises.{IsOwn, MayTake}
 use Rattle.coincidence.proofs.Watched.{read_is, Watched, watched, zone_read, zone_watch_read}
@@ -216,7 +218,7 @@ module _ {site : Site} {kept : Retained} {panel : ℕ} {done : List Done} {taken
   p = point_noted answer.heard counted floor answer.stamp r
 
   abbrev pairs : Bool
-  pairs = counted && (is_type_C z.rule || not r.manual)
+  pairs = counted && makes_pairs z.rule (not r.manual)
 
   and_left : (a b : Bool) → a ≡ true → b ≡ (a && b)
   and_left true b s = refl
@@ -229,17 +231,17 @@ module _ {site : Site} {kept : Retained} {panel : ℕ} {done : List Done} {taken
       let zone_watch : z ≡ w.zone_watch = zone_watch_read stands answer.point own r z e h in
       let manual : r.manual ≡ w.point.manual = ap (λ (o : PointWatch). o.manual) point ∙ w.watches.manual in
       let rule : z.rule ≡ w.zone.rule = ap (λ (o : ZoneWatch). o.rule) zone_watch ∙ w.watches_zone.rule in
-      ap (λ b. b && (is_type_C z.rule || not r.manual)) c
-      ∙ ap (λ q. is_counted site kept done answer && (is_type_C q || not r.manual)) rule
-      ∙ ap (λ m. is_counted site kept done answer && (is_type_C w.zone.rule || not m)) manual
-      ∙ ap (λ d. is_counted site kept done answer && (is_type_C w.zone.rule || d)) (sym (ap detects w.is_point))
+      ap (λ b. b && makes_pairs z.rule (not r.manual)) c
+      ∙ ap (λ q. is_counted site kept done answer && makes_pairs q (not r.manual)) rule
+      ∙ ap (λ m. is_counted site kept done answer && makes_pairs w.zone.rule (not m)) manual
+      ∙ ap (λ d. is_counted site kept done answer && makes_pairs w.zone.rule d) (sym (ap detects w.is_point))
       ∙ and_left (is_of site w.point.zone answer.point) _ (ap (lies_in w.point.zone) w.is_point ∙ eq-eqb w.point.zone w.point.zone refl)
 
   not_of : (place : ℕ) (zone : ZonePlan) → place ≢ r.zone → false ≡ may_pair site kept done place zone.rule answer
   not_of place zone apart =
       let off : is_of site place answer.point ≡ false =
       ap (lies_in place) w.is_point ∙ ne_eqb w.point.zone place (λ s. apart (sym s ∙ sym (zone_read stands answer.point own r e))) in
-      sym (ap (λ b. b && (is_counted site kept done answer && (is_type_C zone.rule || is_detector site answer.point))) off)
+      sym (ap (λ b. b && (is_counted site kept done answer && makes_pairs zone.rule (is_detector site answer.point))) off)
 
   points_more : counted ≡ is_counted site kept done answer → floor.0 ≡ floor_before site r.zone answer.stamp.0 done
       → (place : ℕ) (watch : PointWatch) (point : PointPlan) → slice_get (set decide.points answer.point p) place ≡ Some watch
@@ -280,13 +282,16 @@ module _ {site : Site} {kept : Retained} {panel : ℕ} {done : List Done} {taken
   own_more : (k : ℕ) (a : Answer) → slice_get (taken ++ answer ∷ []) k ≡ Some a → IsOwn site panel a.point
   own_more k a at = ⊎_elim (λ before. stands.own k a before) (λ last. may.own last.0 a last.2) (get_either taken (answer ∷ []) k a at)
 
-  pub stands_more : counted ≡ is_counted site kept done answer → floor.0 ≡ floor_before site r.zone answer.stamp.0 done
+  pub stands_more : (g : PlaceSet) → HasGoingOn g decide.since.0 decide.reset (set decide.points answer.point p)
+      (set decide.zones.items r.zone (zone_noted pairs answer.point answer.stamp z))
+      → counted ≡ is_counted site kept done answer → floor.0 ≡ floor_before site r.zone answer.stamp.0 done
       → DecidesFor site kept panel done (taken ++ answer ∷ []) (record decide {
         points = set decide.points answer.point p;
         zones =
             with_item decide.zones r.zone (zone_noted pairs answer.point answer.stamp z);
+        going_on = g;
       })
-  stands_more c f = record {
+  stands_more g going c f = record {
     wired = stands.wired;
     at = stands.at;
     point_count = length-set decide.points answer.point p ∙ stands.point_count;
@@ -294,19 +299,24 @@ module _ {site : Site} {kept : Retained} {panel : ℕ} {done : List Done} {taken
     points = points_more c f;
     zones = zones_more c;
     reset = stands.reset;
+    going_on = going;
     order = may.order;
     own = own_more;
   }
 
   -- by what the code's calls say of the new values
-  pub stands_noted : (next : List PointWatch) (y : ZoneWatch) (b : Bool) → next ≡ set decide.points answer.point p → b ≡ pairs
+  pub stands_noted : (next : List PointWatch) (y : ZoneWatch) (b : Bool) (g : PlaceSet)
+      → HasGoingOn g decide.since.0 decide.reset next (set decide.zones.items r.zone y) → next ≡ set decide.points answer.point p → b ≡ pairs
       → y ≡ zone_noted b answer.point answer.stamp z
       → counted ≡ is_counted site kept done answer → floor.0 ≡ floor_before site r.zone answer.stamp.0 done
-      → DecidesFor site kept panel done (taken ++ answer ∷ []) (record decide { points = next; zones = with_item decide.zones r.zone y })
-  stands_noted next y b es eb ey c f =
+      → DecidesFor site kept panel done (taken ++ answer ∷ []) (record decide { points = next; zones = with_item decide.zones r.zone y; going_on = g })
+  stands_noted next y b g going es eb ey c f =
       subst (λ (o : List PointWatch × ZoneWatch). DecidesFor site kept panel done (taken ++ answer ∷ [])
-      (record decide { points = o.0; zones = with_item decide.zones r.zone o.1 }))
-      (both (sym es) (sym (ey ∙ ap (λ t. zone_noted t answer.point answer.stamp z) eb))) (stands_more c f)
+      (record decide { points = o.0; zones = with_item decide.zones r.zone o.1; going_on = g }))
+      (both (sym es) (sym (ey ∙ ap (λ t. zone_noted t answer.point answer.stamp z) eb)))
+      (stands_more g
+      (subst (λ (o : List PointWatch × ZoneWatch). HasGoingOn g decide.since.0 decide.reset o.0 (set decide.zones.items r.zone o.1))
+      (both es (ey ∙ ap (λ t. zone_noted t answer.point answer.stamp z) eb)) going) c f)
     where
       both : {q w : List PointWatch} {t u : ZoneWatch} → q ≡ w → t ≡ u → ◌≡◌ {A = List PointWatch × ZoneWatch} (q, t) (w, u)
       both e f = cc
@@ -315,15 +325,17 @@ module _ {site : Site} {kept : Retained} {panel : ℕ} {done : List Done} {taken
 pub quiet_noted : {site : Site} {kept : Retained} {panel : ℕ} {done : List Done} {taken : List Answer} {decide : Decide} (stands :
     DecidesFor site kept panel done taken decide) (answer : Answer) → MayTake site panel done taken (answer ∷ []) →
     is_alarm answer.heard ≡ false → (q : PointWatch) (s : List PointWatch) → q ≡ get_or decide.points answer.point q
-    → s ≡ set decide.points answer.point (point_noted answer.heard false (record { 0 = 0 }) answer.stamp q) →
-    DecidesFor site kept panel done (taken ++ answer ∷ []) (record {
+    → s ≡ set decide.points answer.point (point_noted answer.heard false (record { 0 = 0 }) answer.stamp q) → (g : PlaceSet)
+    → HasGoingOn g decide.since.0 decide.reset s decide.zones.items → DecidesFor site kept panel done (taken ++ answer ∷ []) (record {
       panel = decide.panel;
       points = s;
       zones =
           decide.zones;
       reset = decide.reset;
+      going_on = g;
+      since = decide.since;
     })
-quiet_noted {site} {kept} {panel} {done} {taken} {decide} stands answer may quiet q s eq es =
+quiet_noted {site} {kept} {panel} {done} {taken} {decide} stands answer may quiet q s eq es g going =
     let own = may.own 0 answer refl in
     let w = watched stands answer.point own in
     let counted = is_counted site kept done answer in
@@ -333,13 +345,14 @@ quiet_noted {site} {kept} {panel} {done} {taken} {decide} stands answer may quie
     ap (λ k. get_or decide.zones.items k w.zone_watch) (zone_read stands answer.point own q eq) ∙ get_or_from_slice_get decide.zones.items w.point.zone
     w.zone_watch w.zone_watch w.is_zone_watch
     in
-    let noted =
-    stands_noted stands answer may q w.zone_watch eq (sym there) counted floor s w.zone_watch false
-    (es ∙ sym (ap (λ b. set decide.points answer.point (point_noted answer.heard b floor answer.stamp q)) uncounted))
-    (sym (ap (λ b. b && (is_type_C w.zone_watch.rule || not q.manual)) uncounted)) refl refl refl
-    in
     let items : set decide.zones.items q.zone w.zone_watch ≡ decide.zones.items =
     ap (set decide.zones.items q.zone) (sym there) ∙ set-get_or decide.zones.items q.zone w.zone_watch
+    in
+    let noted =
+    stands_noted stands answer may q w.zone_watch eq (sym there) counted floor s w.zone_watch false g
+    (subst (HasGoingOn g decide.since.0 decide.reset s) (sym items) going)
+    (es ∙ sym (ap (λ b. set decide.points answer.point (point_noted answer.heard b floor answer.stamp q)) uncounted))
+    (sym (ap (λ b. b && makes_pairs w.zone_watch.rule (not q.manual)) uncounted)) refl refl refl
     in
     record {
       wired = noted.wired;
@@ -349,6 +362,7 @@ quiet_noted {site} {kept} {panel} {done} {taken} {decide} stands answer may quie
       points = noted.points;
       zones = λ place watch zone is. noted.zones place watch zone (ap (λ xs. slice_get xs place) items ∙ is);
       reset = noted.reset;
+      going_on = going;
       order = noted.order;
       own = noted.own;
     }

@@ -1,5 +1,5 @@
 -- What the operations done before a tick say of a zone whose alarms that count confirm and release it by themselves.
-use Rattle.std.specs.Prelude.{false, ◌≡◌, ℕ, None, Option, Some, max, slice_get, slice_index_or, ◌||◌}
+use Rattle.std.specs.Prelude.{true, ◌≡◌, ◌<◌, ℕ, None, Option, Some, max, slice_get, slice_index_or, ◌||◌}
 use Rattle.tick_units.specs.declared.last_done.LastDone.{LastDone}
 use Rattle.tick_units.specs.LastTicks.{last_at}
 use Rattle.site_types.specs.declared.answer.Answer.{Answer}
@@ -11,6 +11,13 @@ use Rattle.coincidence.specs.declared.point_watch.PointWatch.{PointWatch}
 use Rattle.coincidence.specs.declared.zone_watch.ZoneWatch.{ZoneWatch}
 use Rattle.coincidence.specs.Parts.{StaysNoted, switch_at}
 
+-- all operations on a zone that may block its alarms or move its floor lie before a tick
+pub record IsSettledAt (x : ℕ) (reset : LastDone) (watch : ZoneWatch) : Type 0 where
+  pub last_reset : reset.tick.0 < x
+  pub moved : watch.moved.tick.0 < x
+  pub off : watch.off.since.0 < x
+  pub test : watch.test.since.0 < x
+
 -- this is what they say of a zone of which this is kept, with the last reset of its panel
 pub record IsSaidAt (x : ℕ) (reset : LastDone) (zone : PlainZone) (watch : ZoneWatch) : Type 0 where
   pub rule : watch.rule ≡ Plain
@@ -18,6 +25,7 @@ pub record IsSaidAt (x : ℕ) (reset : LastDone) (zone : PlainZone) (watch : Zon
   pub number : watch.number ≡ zone.number
   pub blocked : zone.blocked ≡ (switch_at x watch.off || switch_at x watch.test)
   pub floor : zone.floor.0 ≡ max (last_at x reset) (last_at x watch.moved)
+  pub settled : zone.settled ≡ true → IsSettledAt x reset watch
 
 -- what is said so of a zone holds by what is kept
 abbrev pub IsKnown : ℕ → Decide → PlainZone → Type 0
@@ -38,9 +46,8 @@ pub record IsOfPoint (answer : Answer) (decide : Decide) (zone : PlainZone) : Ty
   pub known : IsKnown answer.stamp.0 decide zone
   pub own : (watch : PointWatch) → watch ≡ slice_index_or decide.points answer.point watch → zone.zone ≡ watch.zone
 
--- an answer of a detector of which this is said leaves what is kept of its point as it is
+-- an answer of which this is said leaves what is kept of its point as it is
 pub record RunGoesOn (answer : Answer) (judgement : Judgement) (decide : Decide) : Type 0 where
   pub watch : PointWatch
   pub read : watch ≡ slice_index_or decide.points answer.point watch
   pub stays : StaysNoted answer.heard judgement.counted judgement.floor watch
-  pub detector : watch.manual ≡ false

@@ -25,6 +25,7 @@ use Rattle.coincidence.specs.declared.decide.Decide.{Decide}
 use Rattle.coincidence.specs.Parts.{switch_at, besides}
 use Rattle.coincidence_rules.specs.Kept.{latest_besides, run_of, may_pair}
 use Rattle.coincidence_rules.specs.Wired.{IsWired}
+use Rattle.coincidence.specs.Places.{HasGoingOn}
 use Rattle.coincidence.specs.Premises.{IsOwn, MayTake, MayApply}
 
 -- the operation is a reset
@@ -97,6 +98,7 @@ pub record DecidesFor (site : Site) (kept : Retained) (panel : ℕ) (done : List
       → zone.panel ≡ panel
       → WatchesZone site kept done taken place zone watch
   pub reset : TellsLast (resets panel) done decide.reset
+  pub going_on : HasGoingOn decide.going_on decide.since.0 decide.reset decide.points decide.zones.items
   pub order : AreInOrder taken
   pub own : (k : ℕ) (answer : Answer) → slice_get taken k ≡ Some answer → IsOwn site panel answer.point
 

@@ -60,8 +60,8 @@ impl Decide {
     }
 
     // The same, read from what is kept.
-    fn plain_zone(&self, answer: &Answer, point: &PointWatch) -> Option<PlainZone>
-        requires can { CanTake self.now (answer.now ∷ []) }
+    pub(crate) fn plain_zone(&self, answer: &Answer, point: &PointWatch) -> Option<PlainZone>
+        requires may { CanObserve self.now answer.now }
         requires read { point.now ≡ slice_index_or self.now.points answer.now.point point.now }
         ensures { IfSome result (IsOfPoint answer.now self.now) }
     {
@@ -73,11 +73,13 @@ impl Decide {
         let test = is_on(&zone.test, answer.stamp);
         let reset = self.reset.before(answer.stamp);
         let moved = zone.moved.before(answer.stamp);
+        let settled = zone.is_settled(&self.reset, answer.stamp);
         Some(PlainZone {
             zone: point.zone,
             number: zone.number,
             blocked: off | test,
             floor: Tick(reset.0.max(moved.0)),
+            settled,
         })
     }
 
@@ -109,7 +111,7 @@ impl Decide {
         }
     }
 
-    // Takes note of such an alarm, of which this is said.
+    // Takes note of such an alarm, of which this is said. Where its run goes on, it may do so from now on.
     #[inline(always)]
     fn note_in(&mut self, answer: &Answer, judgement: &Judgement, zone: &PlainZone)
         requires can { CanTake self.old (answer.now ∷ []) }
@@ -119,34 +121,19 @@ impl Decide {
         ensures known { KeepsKnown self.old self.new }
     {
         if self.goes_on(answer, judgement) {
-            return self.note_going_on(answer, judgement, zone);
+            return self.mark_going_on(answer, zone);
         }
         self.note_alarm(answer, judgement)
     }
 
-    // Whether it is of a detector, and leaves what is kept of its point as it is.
+    // Whether it leaves what is kept of its point as it is.
     #[inline(always)]
     fn goes_on(&self, answer: &Answer, judgement: &Judgement) -> bool
         requires { CanTake self.now (answer.now ∷ []) }
         ensures { result ≡ true → RunGoesOn answer.now judgement.now self.now }
     {
         let point = self.points.at(answer.point as usize);
-        let stays = point.stays_at(answer.heard, judgement.counted, judgement.floor);
-        stays & !point.manual
-    }
-
-    // Takes note of an alarm of a detector in such a zone which leaves what is kept of its point as it is.
-    #[inline(always)]
-    fn note_going_on(&mut self, answer: &Answer, judgement: &Judgement, zone: &PlainZone)
-        requires can { CanTake self.old (answer.now ∷ []) }
-        requires zone { IsOfPoint answer.now self.old zone.now }
-        requires on { RunGoesOn answer.now judgement.now self.old }
-        ensures taken { TakesJudged self.old answer.now judgement.now self.new }
-        ensures others { KeepsOthers answer.now.point self.old self.new }
-        ensures known { KeepsKnown self.old self.new }
-    {
-        let watch = &mut self.zones[zone.zone as usize];
-        watch.note(judgement.counted, answer.point, answer.stamp);
+        point.stays_at(answer.heard, judgement.counted, judgement.floor)
     }
 
     // What the operations done before such an alarm say of it.

@@ -10,7 +10,7 @@ use crate::point_watches::PointWatches;
 use crate::rules::{counts_unless, is_on, may_pair, plain_finding};
 use crate::watches::watch_zones;
 use crate::zone_watch::ZoneWatch;
-use answer_lanes::{AnswerGroup, FindingGroup, Lane};
+use answer_lanes::{AnswerGroup, FindingGroup, Lane, PlaceSet};
 use arrayvec::ArrayVec;
 use coincidence_rules::Finding;
 use site_types::{Answer, Heard, Item, Operation, Retained, Site, has_bit_8};
@@ -20,8 +20,9 @@ use tick_units::{LastDone, NoMemory, Tick};
 /// Decides which answers of a panel's points confirm and release which of its zones.
 ///
 /// It has no list of answers. Of each point it keeps where its run of counted answers began and how many of
-/// its last answers were silent, of each zone the latest answers of two points, and of each setting one
-/// earlier value: that of the tick in which it was set.
+/// its last answers were silent, of each zone that isn't plain the latest answers of two points, and of each
+/// setting one earlier value: that of the tick in which it was set. Besides it keeps which points' alarms change
+/// nothing of all this.
 #[derive(Drop)]
 pub struct Decide {
     pub(crate) panel: u8,
@@ -31,9 +32,13 @@ pub struct Decide {
     pub(crate) zones: Vec<ZoneWatch>,
     /// The last reset of the panel.
     pub(crate) reset: LastDone,
+    /// Points whose alarms change nothing of what is kept, if they are asked in this tick or later.
+    pub(crate) going_on: PlaceSet,
+    pub(crate) since: Tick,
 }
 
 impl Decide {
+    ghost use Rattle.answer_lanes.specs.Places.{HasNone};
     ghost use Rattle.coincidence_rules.specs.Counted.{is_alarm, is_silent};
     ghost use Rattle.coincidence.specs.Changes.{AppliesOperation, FindsNext, KeepsOthers, PutsFindings, TakesAnswers};
     ghost use Rattle.coincidence.specs.Changes.{TakesJudged};
@@ -52,11 +57,14 @@ impl Decide {
     {
         let points = PointWatches::new(alloc, site.points.as_slice(), kept)?;
         let zones = watch_zones(alloc, site.zones.as_slice(), kept)?;
+        let going_on = PlaceSet::first(alloc, site.points.len(), false)?;
         Ok(Decide {
             panel,
             points,
             zones,
             reset: LastDone::never(),
+            going_on,
+            since: Tick(0),
         })
     }
 
@@ -91,6 +99,7 @@ impl Decide {
         requires { CanApply self.old operation.now at.0 }
         ensures { AppliesOperation self.old operation.now at.0 self.new }
     {
+        self.going_on.clear();
         match *operation {
             Operation::Reset => self.reset.raise(at),
             Operation::Cancel(zone) => self.zones[zone as usize].cancel(at),
@@ -109,7 +118,8 @@ impl Decide {
 
     // A point, zone or output of the panel was disabled or enabled in a tick.
     fn set_off(&mut self, item: &Item, off: bool, at: Tick)
-        requires { CanApply self.old (off_operation off item.now) at.0 }
+        requires can { CanApply self.old (off_operation off item.now) at.0 }
+        requires none { HasNone self.old.going_on }
         ensures { AppliesOperation self.old (off_operation off item.now) at.0 self.new }
     {
         match *item {
@@ -168,6 +178,7 @@ impl Decide {
             Tick(0),
             answer.stamp,
         );
+        self.going_on.set(answer.point as usize, false);
     }
 
     // What an answer means that is no alarm and was the last one taken: it tells of no zone.
@@ -225,6 +236,7 @@ impl Decide {
             judgement.floor,
             answer.stamp,
         );
+        self.going_on.set(place, false);
         let watch = &mut self.zones[zone];
         watch.note(
             may_pair(judgement.counted, manual, watch.rule),

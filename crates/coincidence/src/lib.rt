@@ -15,16 +15,24 @@
 //!
 //! The answers and operations themselves are not kept. Of a zone's answers the latest of two different points
 //! are enough, since a later one always serves where an earlier one would; of a point's own answers where its
-//! run of counted ones began; of an operation its tick and the value before. Quiet answers of points at rest,
-//! those whose last answer wasn't silent and didn't count, change nothing of it, and so do silent answers of points
-//! that are missing already: of a run within a group of eight they are passed over in one step. Each other answer costs
-//! the same, whatever the site. A turn takes no memory; only [`Decide::new`] does.
+//! run of counted ones began; of an operation its tick and the value before. In a plain zone, which each alarm that
+//! counts confirms by itself, no answer makes a pair, so none is kept.
+//!
+//! Three kinds of answers change nothing of it, and a group of eight is asked for them by bits: quiet answers of
+//! points at rest, those whose last answer wasn't silent and didn't count; silent answers of points that are
+//! missing already; and alarms that go on, those of marked points. A detector in a plain zone is marked by an
+//! alarm that counts and changes nothing, once all operations on it, its zone and the panel lie before that
+//! alarm's tick; any other answer of it that changes something unmarks it, and an operation unmarks all points.
+//! A run within a group of eight is passed over in one step where all its answers are of the first two kinds, or
+//! all but alarms that go on in one zone. Of any other run each answer that is of neither of the first two kinds
+//! is taken by itself, which costs the same, whatever the site. A turn takes no memory; only [`Decide::new`] does.
 #![tactic(auto)]
 
 mod alarms;
 mod bits;
 mod decide;
 mod gathering;
+mod going_on;
 mod judgement;
 mod observation;
 mod partner_finding;

@@ -11,4 +11,6 @@ pub struct PlainZone {
     pub blocked: bool,
     /// Its last floor.
     pub floor: Tick,
+    /// Whether all of them lie before the tick, so that they say the same from then on.
+    pub settled: bool,
 }

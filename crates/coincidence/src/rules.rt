@@ -1,6 +1,6 @@
 ghost use Rattle.std.specs.Prelude.{◌≡◌, ◌≤◌, not, ◌&&◌, ◌||◌};
 ghost use Rattle.coincidence.specs.Parts.{switch_at};
-ghost use Rattle.coincidence_rules.specs.Kept.{is_type_C, after as after_tick};
+ghost use Rattle.coincidence_rules.specs.Kept.{after as after_tick, makes_pairs as makes_pairs_in};
 ghost use Rattle.coincidence_rules.specs.Counted.{is_alarm};
 
 use answer_lanes::{AnswerGroup, FindingGroup};
@@ -19,17 +19,19 @@ pub fn counts_unless(heard: Heard, off: bool, zone_off: bool, test: bool) -> boo
 
 /// Whether an answer may make a pair with others of its zone.
 pub fn may_pair(counted: bool, manual: bool, rule: Rule) -> bool
-    ensures { result ≡ counted && (is_type_C rule || not manual) }
+    ensures { result ≡ counted && makes_pairs_in rule (not manual) }
 {
-    counted && (is_type_c(rule) || !manual)
+    counted && makes_pairs(rule, !manual)
 }
 
-fn is_type_c(rule: Rule) -> bool
-    ensures { result ≡ is_type_C rule }
+// Whether answers of a detector, or of a call point, make pairs in a zone of a type.
+fn makes_pairs(rule: Rule, detector: bool) -> bool
+    ensures { result ≡ makes_pairs_in rule detector }
 {
     match rule {
+        Rule::Plain => false,
+        Rule::A { .. } | Rule::B { .. } => detector,
         Rule::C => true,
-        Rule::Plain | Rule::A { .. } | Rule::B { .. } => false,
     }
 }
 
@@ -83,5 +85,24 @@ pub fn plain_group(answers: &AnswerGroup) -> FindingGroup
         confirmed: 0,
         manual: 0,
         released: 0,
+    }
+}
+
+ghost use Rattle.coincidence.specs.GoingOn.{telling_of};
+
+/// What the answers of a group mean where its alarms are those of detectors in zones that each of them confirms and
+/// releases, and the other answers tell of no zone.
+pub fn telling_group(answers: &AnswerGroup, zones: u32) -> FindingGroup
+    ensures { (k : ℕ) → finding_at result k ≡ telling_of zones (answer_at answers.now k) }
+{
+    FindingGroup {
+        stamp: answers.stamp,
+        point: answers.point,
+        missing: answers.silent_bits(),
+        telling: answers.alarms,
+        counted: zones,
+        confirmed: zones,
+        manual: 0,
+        released: zones,
     }
 }

@@ -8,7 +8,7 @@ ghost use Rattle.answer_lanes.specs.Runs.{HoldsItems, all_items};
 use crate::bits::{first_bits, lowest_bit};
 use crate::decide::Decide;
 use crate::gathering::{gather, gather_at};
-use crate::rules::plain_group;
+use crate::rules::{plain_group, telling_group};
 use answer_lanes::{AnswerGroup, FindingGroup, Lane, Run};
 use site_types::with_bit_8;
 
@@ -37,18 +37,35 @@ impl Decide {
         ensures { TakesAnswerRun self.old run.now findings.old self.new findings.new }
     {
         if run.taken + run.count <= 8 && run.first.point <= u16::MAX - 8 {
-            let changing = self.changing_bits(run);
-            if changing == 0 {
-                findings.put_run(Run {
-                    first: plain_group(&run.first),
-                    taken: run.taken,
-                    count: run.count,
-                });
-            } else {
-                self.take_changing(run, changing, findings);
-            }
+            self.take_eight(run, findings);
         } else {
             self.take_each(run, findings);
+        }
+    }
+
+    // Takes the answers of a run within a group of eight: in one step where all change nothing of what is kept.
+    #[inline(always)]
+    fn take_eight(&mut self, run: &Run<AnswerGroup>, findings: &mut Lane<FindingGroup>)
+        requires within { IsWithinEight run.now }
+        requires can { CanTakeAnswerRun self.old run.now findings.old }
+        ensures { TakesAnswerRun self.old run.now findings.old self.new findings.new }
+    {
+        let changing = self.changing_bits(run);
+        if changing == 0 {
+            findings.put_run(Run {
+                first: plain_group(&run.first),
+                taken: run.taken,
+                count: run.count,
+            });
+            return;
+        }
+        match self.zones_going_on(run, changing) {
+            Some(zones) => findings.put_run(Run {
+                first: telling_group(&run.first, zones),
+                taken: run.taken,
+                count: run.count,
+            }),
+            None => self.take_changing(run, changing, findings),
         }
     }
 

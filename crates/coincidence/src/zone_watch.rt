@@ -1,5 +1,6 @@
 ghost use Rattle.std.specs.Prelude.{◌≡◌, ◌<◌, None, true};
 ghost use Rattle.site_types.specs.declared.rule.Rule.TheVariants.{Plain};
+ghost use Rattle.coincidence.specs.PlainZones.{IsSettledAt};
 ghost use Rattle.coincidence.specs.Parts.{zone_begun, zone_noted, zone_switched, zone_tested};
 ghost use Rattle.tick_units.specs.LastTicks.{last_after, last_at};
 ghost use Rattle.coincidence_rules.specs.Kept.{bar};
@@ -57,6 +58,16 @@ impl ZoneWatch {
         ensures { result ≡ true → (self.now.rule ≡ Plain) × (self.now.partner ≡ None) }
     {
         matches!(self.rule, Rule::Plain) && self.partner.is_none()
+    }
+
+    /// Whether all operations that may block its alarms or move its floor lie before a tick, with the last reset.
+    pub fn is_settled(&self, reset: &LastDone, at: Tick) -> bool
+        ensures { result ≡ true → IsSettledAt at.0 reset.now self.now }
+    {
+        if reset.tick.0 >= at.0 || self.moved.tick.0 >= at.0 {
+            return false;
+        }
+        self.off.since.0 < at.0 && self.test.since.0 < at.0
     }
 
     /// After which tick an earlier answer must lie to make a pair with one of this stamp.

@@ -1,5 +1,5 @@
 -- The latest answer of another point tells whether there is a second one, of each type of zone.
-use Rattle.std.proofs.Common.{◌≡◌, ℕ, ◌+◌, ◌≤◌, max, Bool, true, false, not, List, Some, None, slice_get, is_some, ◌==◌, ◌&&◌, ◌||◌, nat_lt, nat_le, ◌∙◌, ap, arith}
+use Rattle.std.proofs.Common.{◌≡◌, ℕ, ◌+◌, ◌≤◌, max, Bool, true, not, List, Some, None, slice_get, is_some, ◌==◌, ◌&&◌, nat_lt, nat_le, ◌∙◌, ap, arith}
 use Rattle.std.specs.List.{list_any}
 use Rattle.std.proofs.lemmas.Bool.Decides.{nat_tests}
 use Rattle.site_types.specs.declared.site.Site.{Site}
@@ -37,15 +37,15 @@ rises_after last tick = record { up = λ x y le top h. go x.0 y.0 le h }
     go : (x y : ℕ) → x ≤ y → nat_lt tick x ≡ true → nat_lt tick y ≡ true
     go x y le h = grind (arith, nat_tests, le, h)
 
-as_near : (o s c d f l w : Bool) → l ≡ true → (((o && (c && (false || d))) && not s) && (f && w)) ≡ (((((o && c) && not s) && (f && l)) && d) && w)
+as_near : (o s c d f l w : Bool) → l ≡ true → (((o && (c && d)) && not s) && (f && w)) ≡ (((((o && c) && not s) && (f && l)) && d) && w)
 as_near o s c d f l w h = grind arith
 
 as_uncancelled : (o s c d f l w k : Bool) → l ≡ true
-    → (((o && (c && (false || d))) && not s) && ((f && k) && w)) ≡ ((((((o && c) && not s) && (f && l)) && d) && w) && k)
+    → (((o && (c && d)) && not s) && ((f && k) && w)) ≡ ((((((o && c) && not s) && (f && l)) && d) && w) && k)
 as_uncancelled o s c d f l w k h = grind arith
 
-as_second : (o s c d f l : Bool) → l ≡ true → (((o && (c && (true || d))) && not s) && f) ≡ (((o && c) && not s) && (f && l))
-as_second o s c d f l h = grind arith
+as_second : (o s c f l : Bool) → l ≡ true → (((o && (c && true)) && not s) && f) ≡ (((o && c) && not s) && (f && l))
+as_second o s c f l h = grind arith
 
 after_both : (f c s : ℕ) → nat_lt (max f c) s ≡ (nat_lt f s && nat_lt c s)
 after_both f c s = grind (arith, nat_tests)
@@ -94,4 +94,4 @@ any_by_second site kept done taken zone answer order late =
     ∙ latest_tells (may_pair site kept done zone C) answer.point x 0 (λ s. nat_lt floor s.0) None taken (rises_after x floor) tt
     (up_to x taken order late)
     ∙ any_same _ _ taken (λ k a at. as_second (is_of site zone a.point) (a.point == answer.point) (is_counted site kept done a)
-    (is_detector site a.point) (nat_lt floor a.stamp.0) (nat_le a.stamp.0 x) (le_true a.stamp.0 x (late k a at)))
+    (nat_lt floor a.stamp.0) (nat_le a.stamp.0 x) (le_true a.stamp.0 x (late k a at)))

@@ -1,12 +1,12 @@
 -- What is enough to keep of the answers taken: of a point where its run of counted answers began, of a zone
 -- the latest answers of two points.
-use Rattle.std.specs.Prelude.{ℕ, Bool, true, false, not, max, List, [], ◌∷◌, Option, Some, None, ◌==◌, ◌&&◌, ◌||◌}
+use Rattle.std.specs.Prelude.{ℕ, Bool, true, false, not, max, List, [], ◌∷◌, Option, Some, None, ◌==◌, ◌&&◌}
 use Rattle.std.specs.Prelude.{nat_lt, nat_le, ◌+◌, if◌then◌else◌}
 use Rattle.tick_units.specs.declared.tick.Tick.{Tick}
 use Rattle.site_types.specs.declared.site.Site.{Site}
 use Rattle.site_types.specs.declared.answer.Answer.{Answer}
 use Rattle.site_types.specs.declared.rule.Rule.{Rule}
-use Rattle.site_types.specs.declared.rule.Rule.TheVariants.{B, C}
+use Rattle.site_types.specs.declared.rule.Rule.TheVariants.{Plain, B, C}
 use Rattle.site_types.specs.declared.retained.Retained.{Retained}
 use Rattle.site_types.specs.Done.{Done, floor_before, cancelled_before}
 use Rattle.coincidence_rules.specs.Places.{is_of, is_detector}
@@ -37,16 +37,18 @@ abbrev pub is_long : ℕ → ℕ → ℕ → Option Tick → Bool
 is_long verify floor stamp None = false
 is_long verify floor stamp (Some first) = nat_lt floor first.0 && nat_le (first.0 + verify) stamp
 
-abbrev pub is_type_C : Rule → Bool
-is_type_C C = true
-is_type_C _ = false
+-- whether answers of a detector, or of a call point, make pairs in a zone of a type: in a plain one none do, since each
+-- that counts confirms it by itself, and in one of type C both do
+abbrev pub makes_pairs : Rule → Bool → Bool
+makes_pairs Plain detector = false
+makes_pairs C detector = true
+makes_pairs _ detector = detector
 
--- an answer of the zone may make a pair with another one: it counts, and is of a detector where the zone is
--- not of type C
+-- an answer of the zone may make a pair with another one: it counts, and is of a point whose answers make pairs there
 abbrev pub may_pair : Site → Retained → List Done → ℕ → Rule → Answer → Bool
 may_pair site kept done zone rule answer =
     is_of site zone answer.point
-    && (is_counted site kept done answer && (is_type_C rule || is_detector site answer.point))
+    && (is_counted site kept done answer && makes_pairs rule (is_detector site answer.point))
 
 -- the tick after which an earlier answer must lie
 abbrev pub bar : Rule → ℕ → ℕ → ℕ

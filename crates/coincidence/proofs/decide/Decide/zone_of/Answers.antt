@@ -1,7 +1,7 @@
 use Rattle.std.proofs.Common.{◌∙◌, refl, ap, subst}
 use Rattle.coincidence.specs.PlainZones.{KnowsZone}
 use Rattle.coincidence.proofs.PlainZones.{point_same}
-use Rattle.coincidence.proofs.Watched.{fits_next, point_small}
+use Rattle.coincidence.proofs.Watched.{can_observe, fits_next, point_small}
 use Rattle.coincidence.proofs.decide.Decide.zone_of.Goals as goal
 
 pub at-point-requires : goal.at-point-requires
@@ -18,3 +18,6 @@ returns-in-Some c =
       own = λ watch read. c.if-zone-point.true ∙ ap (λ w. w.zone)
           (point_same q.stands answer (fits_next q.site q.kept q.panel q.done q.taken answer q.may) c.at-point.result.now c.at-point.ensures watch read);
     }
+
+pub plain_zone-requires-clause-may : goal.plain_zone-requires-clause-may
+plain_zone-requires-clause-may c = can_observe c.args.self.now c.args.answer.now c.requires.can

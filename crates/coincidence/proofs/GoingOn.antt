@@ -1,0 +1,265 @@
+-- Alarms that go on in a plain zone leave all that is kept as it is, and confirm and release that zone.
+use Rattle.std.proofs.Common.{◌≡◌, ◌≢◌, ◌⊎◌, inl, inr, nat_lt, ℕ, ◌+◌, ◌<◌, ◌≤◌, ◌^◌, ◌==◌, ◌&&◌, ◌||◌, Bool, true, false, not, List, [], ◌∷◌, ◌++◌, Some, length, max, min, slice_get, get_or, bit_and, if◌then◌else◌, refl, sym, ◌∙◌, ap, subst, arith}
+use Rattle.std.specs.Int.{w8, bit_not}
+use Rattle.std.proofs.lemmas.Nat.{and_le_l}
+use Rattle.std.proofs.lemmas.List.FromFn.{get_or-map-range_with_len}
+use Rattle.std.proofs.lemmas.Option.{slice_get-get_or}
+use Rattle.site_types.specs.declared.site.Site.{Site}
+use Rattle.site_types.specs.declared.answer.Answer.{Answer}
+use Rattle.site_types.specs.declared.retained.Retained.{Retained}
+use Rattle.site_types.specs.Bits.{has_bit, with_bit}
+use Rattle.site_types.specs.Done.{Done}
+use Rattle.std.proofs.lemmas.Bool.Decides.{eqb_tells}
+use Rattle.site_types.proofs.Done.{lt_tells}
+use Rattle.answer_lanes.proofs.MaskBits.{set_below}
+use Rattle.site_types.proofs.Masks.{has_bit-above, has_bit-and, has_bit-not, has_bit-zero}
+use Rattle.answer_lanes.specs.declared.answer_group.AnswerGroup.{AnswerGroup}
+use Rattle.answer_lanes.specs.declared.run.Run.{Run}
+use Rattle.answer_lanes.specs.Points.{answer_at, mask_if}
+use Rattle.answer_lanes.specs.Runs.{items_of}
+use Rattle.answer_lanes.proofs.Moving.{length_run}
+use Rattle.coincidence_rules.proofs.Lists.{get_left, get_right, get_small, same_place}
+use Rattle.coincidence_rules.specs.Counted.{is_alarm, is_silent}
+use Rattle.coincidence_rules.specs.Findings.{finding_of}
+use Rattle.coincidence.specs.declared.decide.Decide.{Decide}
+use Rattle.coincidence.specs.declared.judgement.Judgement.{Judgement}
+use Rattle.coincidence.specs.declared.plain_zone.PlainZone.{PlainZone}
+use Rattle.coincidence.specs.declared.point_watch.PointWatch.{PointWatch}
+use Rattle.coincidence.specs.GoingOn.{AreInZone, ConfirmsAgain, IsInZone, telling_of}
+use Rattle.site_types.specs.declared.heard.Heard.TheVariants.{Alarm}
+use Rattle.answer_lanes.specs.Places.{has_place}
+use Rattle.coincidence.specs.Places.{GoesOnFrom}
+use Rattle.tick_units.specs.LastTicks.{last_at}
+use Rattle.coincidence.specs.declared.zone_watch.ZoneWatch.{ZoneWatch}
+use Rattle.coincidence.specs.Observations.{Judges}
+use Rattle.coincidence.specs.Parts.{StaysNoted, switch_at}
+use Rattle.coincidence.specs.PlainZones.{IsKnown, IsOfPoint, IsSaidAt}
+use Rattle.coincidence.specs.Premises.{MayTake}
+use Rattle.coincidence.specs.Resting.{IsWithinEight}
+use Rattle.coincidence.specs.Stands.{CanObserve, CanTake, DecidesFor, Fits}
+use Rattle.coincidence.proofs.FindingIs.{HasBit, finding_by}
+use Rattle.coincidence.proofs.PlainAlarms.{plain_alarm_is}
+use Rattle.coincidence.proofs.PlainZones.{gone_on, judged_in, not_silent, point_same, said_of, zone_there}
+use Rattle.coincidence.proofs.Watched.{fits_next, read_is, watched}
+
+-- ---- each answer of a run can be observed
+
+item_there : (run : Run AnswerGroup) (k : ℕ) → k < run.count → slice_get (items_of answer_at run) k ≡ Some (answer_at run.first (run.taken + k))
+item_there run k small =
+    let item = answer_at run.first (run.taken + k) in
+    let count = length_run answer_at run in
+    let within : k < length (items_of answer_at run) = omega (arith, small, count) in
+    slice_get-get_or (items_of answer_at run) k item within
+    ∙ ap Some (get_or-map-range_with_len (answer_at run.first) run.taken run.count k (run.taken + k) item small refl)
+
+fits_among : (site : Site) (kept : Retained) (panel : ℕ) (done : List Done) (taken answers : List Answer) (k : ℕ) (answer : Answer)
+    → MayTake site panel done taken answers → slice_get answers k ≡ Some answer → Fits site panel done taken answer
+fits_among site kept panel done taken answers k answer may there = record {
+  own = may.own k answer there;
+  since = may.since k answer there;
+  late = λ j other at. may.order.rising j (length taken + k) other answer (before j (get_small taken j other at))
+      (get_left taken answers j other at) (get_right taken answers k answer there);
+}
+  where
+    before : (j : ℕ) → j < length taken → j ≤ length taken + k
+    before j less = omega (arith, less)
+
+-- the point of an answer of a run within a group of eight
+pub point_of : (run : Run AnswerGroup) (k : ℕ) → IsWithinEight run → k < run.count
+    → (answer_at run.first (run.taken + k)).point ≡ run.first.point + (run.taken + k)
+point_of run k within small =
+    let places = within.places in
+    let points = within.points in
+    let here : min (run.first.point + (run.taken + k)) 65535 ≡ run.first.point + (run.taken + k) = omega (arith, places, points, small) in
+    here
+
+pub item_observed : (decide : Decide) (run : Run AnswerGroup) (k : ℕ) → k < run.count → CanTake decide (items_of answer_at run)
+    → CanObserve decide (answer_at run.first (run.taken + k))
+item_observed decide run k small can = record {
+  site = can.site;
+  kept = can.kept;
+  panel = can.panel;
+  done = can.done;
+  taken = can.taken;
+  stands = can.stands;
+  may = fits_among can.site can.kept can.panel can.done can.taken (items_of answer_at run) k (answer_at run.first (run.taken + k)) can.may
+      (item_there run k small);
+}
+
+-- ---- an alarm that goes on
+
+-- it is of a detector in a zone of which this is said; it counts, and leaves what is kept of its point as it is
+pub record GoesOnIn (decide : Decide) (answer : Answer) (zone : PlainZone) : Type 0 where
+  pub alarm : is_alarm answer.heard ≡ true
+  pub watch : PointWatch
+  pub read : watch ≡ get_or decide.points answer.point watch
+  pub own : zone.zone ≡ watch.zone
+  pub detector : watch.manual ≡ false
+  pub counts : (switch_at answer.stamp.0 watch.off || zone.blocked) ≡ false
+  pub stays : StaysNoted answer.heard true zone.floor watch
+
+none_of : (b : Bool) → false ≡ (if b then false else false)
+none_of true = refl
+none_of false = refl
+
+told_by : (answer : Answer) (zones : ℕ) → is_alarm answer.heard ≡ true → is_silent answer.heard ≡ false
+    → telling_of zones answer ≡ finding_by answer zones zones 0 zones false
+told_by answer zones alarm heard =
+    ap (λ b. finding_by answer (mask_if b zones) (mask_if b zones) 0 (mask_if b zones) (is_silent answer.heard)) alarm
+    ∙ ap (finding_by answer zones zones 0 zones) heard
+
+module _ {site : Site} {kept : Retained} {panel : ℕ} {done : List Done} {taken : List Answer} {decide : Decide} (stands :
+    DecidesFor site kept panel done taken decide) (answer : Answer) (may : MayTake site panel done taken (answer ∷ [])) (zone : PlainZone)
+    (known : IsKnown answer.stamp.0 decide zone) (on : GoesOnIn decide answer zone) where
+  abbrev fits : Fits site panel done taken answer
+  fits = fits_next site kept panel done taken answer may
+
+  abbrev of : IsOfPoint answer decide zone
+  of = record {
+    known = known;
+    own = λ watch read. on.own ∙ ap (λ (w : PointWatch). w.zone) (point_same stands answer fits on.watch on.read watch read);
+  }
+
+  abbrev judgement : Judgement
+  judgement = record { counted = true; floor = zone.floor }
+
+  judges : Judges site kept done answer judgement
+  judges =
+      judged_in stands answer fits on.watch on.read zone of on.alarm (switch_at answer.stamp.0 on.watch.off) true refl (sym (ap not on.counts))
+
+  pub stands_on : DecidesFor site kept panel done (taken ++ answer ∷ []) decide
+  stands_on = gone_on stands answer may judgement judges (record { watch = on.watch; read = on.read; stays = on.stays }) zone of
+
+  pub found_on : (zones : ℕ) → zones < 2 ^ 32 → HasBit zones zone.number true → telling_of zones answer ≡ finding_of site kept panel done taken answer
+  found_on zones below bits =
+      let s = said_of stands answer fits on.watch on.read zone of in
+      let heard = not_silent answer.heard on.alarm in
+      told_by answer zones on.alarm heard
+      ∙ plain_alarm_is stands answer may stands_on on.watch s.watch on.read s.read judgement judges heard s.said.rule s.said.partner zones 0 below
+      (omega arith) (subst (λ n. HasBit zones n true) (sym s.said.number) bits)
+      (λ k small. has_bit-zero k ∙ none_of ((k + 1) == s.watch.number)
+      ∙ ap (λ m. if (k + 1) == s.watch.number then (true && m) else false) (sym on.detector))
+
+-- ---- one of a point of which it is known that its alarms go on
+
+-- it is of a point in a zone, one of those whose alarms go on
+pub record GoesOnAgain (decide : Decide) (answer : Answer) (zone : ℕ) : Type 0 where
+  pub alarm : answer.heard ≡ Alarm
+  pub has : has_place decide.going_on answer.point ≡ true
+  pub watch : PointWatch
+  pub read : watch ≡ get_or decide.points answer.point watch
+  pub own : zone ≡ watch.zone
+  pub since : decide.since.0 ≤ answer.stamp.0
+
+module _ {site : Site} {kept : Retained} {panel : ℕ} {done : List Done} {taken : List Answer} {decide : Decide} (stands :
+    DecidesFor site kept panel done taken decide) (answer : Answer) (may : MayTake site panel done taken (answer ∷ [])) (zone : ℕ)
+    (on : GoesOnAgain decide answer zone) where
+  abbrev next_fits : Fits site panel done taken answer
+  next_fits = fits_next site kept panel done taken answer may
+
+  abbrev kept_zone : ZoneWatch
+  kept_zone = (watched stands answer.point next_fits.own).zone_watch
+
+  zone_at : slice_get decide.zones.items on.watch.zone ≡ Some kept_zone
+  zone_at = zone_there stands answer next_fits on.watch on.read
+
+  point_at : slice_get decide.points answer.point ≡ Some on.watch
+  point_at =
+      let w = watched stands answer.point next_fits.own in
+      w.is_watch ∙ ap Some (sym (read_is decide.points answer.point on.watch w.watch on.read w.is_watch))
+
+  abbrev said_zone : PlainZone
+  said_zone = record {
+    zone = on.watch.zone;
+    number = kept_zone.number;
+    blocked = switch_at answer.stamp.0 kept_zone.off || switch_at answer.stamp.0 kept_zone.test;
+    floor = record { 0 = max (last_at answer.stamp.0 decide.reset) (last_at answer.stamp.0 kept_zone.moved) };
+    settled = false;
+  }
+
+  from : GoesOnFrom decide.since.0 decide.reset on.watch kept_zone
+  from = stands.going_on.all answer.point on.watch kept_zone on.has point_at zone_at
+
+  said_known : IsKnown answer.stamp.0 decide said_zone
+  said_known watch at =
+      subst (IsSaidAt answer.stamp.0 decide.reset said_zone)
+      (same_place decide.zones.items on.watch.zone on.watch.zone kept_zone watch refl zone_at at)
+      (record { rule = from.rule; partner = from.partner; number = refl; blocked = refl; floor = refl; settled = λ is. absurd (cc) })
+
+  goes_in : GoesOnIn decide answer said_zone
+  goes_in = record {
+    alarm = ap is_alarm on.alarm;
+    watch = on.watch;
+    read = on.read;
+    own = refl;
+    detector = from.detector;
+    counts = from.counts answer.stamp.0 on.since;
+    stays = subst (λ h. StaysNoted h true said_zone.floor on.watch) (sym on.alarm) (from.stays answer.stamp.0 said_zone.floor on.since refl);
+  }
+
+  pub stands_again : DecidesFor site kept panel done (taken ++ answer ∷ []) decide
+  stands_again = stands_on stands answer may said_zone said_known goes_in
+
+  pub found_again : (z : ZoneWatch) → z ≡ get_or decide.zones.items zone z → (zones : ℕ) → zones < 2 ^ 32 → HasBit zones z.number true
+      → telling_of zones answer ≡ finding_of site kept panel done taken answer
+  found_again z read zones below bits =
+      let same : z ≡ kept_zone = read_is decide.zones.items zone z kept_zone read (ap (slice_get decide.zones.items) on.own ∙ zone_at) in
+      found_on stands answer may said_zone said_known goes_in zones below (subst (λ (w : ZoneWatch). HasBit zones w.number true) same bits)
+
+pub confirms_again : (decide : Decide) (answer : Answer) (zone : ℕ) → GoesOnAgain decide answer zone → (z : ZoneWatch)
+    → z ≡ get_or decide.zones.items zone z → (zones : ℕ) → zones < 2 ^ 32 → HasBit zones z.number true → ConfirmsAgain decide answer zones
+confirms_again decide answer zone on z read zones below bits = record {
+  taken = λ site kept panel done taken stands may. stands_again stands answer may zone on;
+  found = λ site kept panel done taken stands may. found_again stands answer may zone on z read zones below bits;
+}
+
+-- ---- the answers of a run one after the other
+
+-- a byte is smaller where a bit of it was cleared
+pub cleared_smaller : (byte bit rest : ℕ) → rest ≡ with_bit w8 byte bit false → has_bit byte bit ≡ true → has_bit rest bit ≡ false → rest < byte
+cleared_smaller byte bit rest is was cleared =
+    let least : rest ≤ byte = subst (λ n. n ≤ byte) (sym is) (and_le_l byte _) in
+    let apart : rest ≢ byte = λ e. (let at = ap (λ n. has_bit n bit) e in cc) in
+    omega (arith, least, apart)
+
+-- those whose bits are no longer left are found to be of points in a zone
+pub record AreFoundOn (decide : Decide) (run : Run AnswerGroup) (zone : ℕ) (bits left : ℕ) : Type 0 where
+  pub found : (k : ℕ) → has_bit bits k ≡ true → has_bit left k ≡ false → IsInZone decide (answer_at run.first (run.taken + k)) zone
+  pub among : (k : ℕ) → has_bit left k ≡ true → has_bit bits k ≡ true
+  pub fits : left < 2 ^ 8
+
+pub found_on_none : (decide : Decide) (run : Run AnswerGroup) (zone : ℕ) (bits : ℕ) → bits < 2 ^ 8 → AreFoundOn decide run zone bits bits
+found_on_none decide run zone bits below = record { found = λ k is no'. absurd (cc); among = λ k is. is; fits = below }
+
+module _ {decide : Decide} {run : Run AnswerGroup} {zone : ℕ} {bits left : ℕ} (h : AreFoundOn decide run zone bits left) where
+  pub found_on_next : (bit rest : ℕ) → IsInZone decide (answer_at run.first (run.taken + bit)) zone → rest < 2 ^ 8
+      → ((k : ℕ) → k < 8 → k ≢ bit → has_bit rest k ≡ has_bit left k) → has_bit rest bit ≡ false → AreFoundOn decide run zone bits rest
+  found_on_next bit rest on below others this = record {
+    found = λ k is gone. by k is gone (eqb_tells k bit);
+    among = λ k is. h.among k (sym (others k (set_below rest k below is) (λ e. (let at = ap (has_bit rest) e in cc))) ∙ is);
+    fits = below;
+  }
+    where
+      by : (k : ℕ) → has_bit bits k ≡ true → has_bit rest k ≡ false → ((k == bit) ≡ true) × (k ≡ bit) ⊎ (((k == bit) ≡ false) × (k ≢ bit))
+          → IsInZone decide (answer_at run.first (run.taken + k)) zone
+      by k is gone (inl same) = subst (λ n. IsInZone decide (answer_at run.first (run.taken + n)) zone) (sym same.1) on
+      by k is gone (inr other) = under (lt_tells k 8)
+        where
+          under : ((nat_lt k 8 ≡ true) × (k < 8)) ⊎ ((nat_lt k 8 ≡ false) × (8 ≤ k)) → IsInZone decide (answer_at run.first (run.taken + k)) zone
+          under (inl less) = h.found k is (sym (others k less.1 other.1) ∙ gone)
+          under (inr above) = h.found k is (has_bit-above 8 left k h.fits above.1)
+
+  pub all_found_on : left ≡ 0 → AreInZone decide run bits zone
+  all_found_on none k small is = h.found k is (ap (λ m. has_bit m k) none ∙ has_bit-zero k)
+
+-- a byte of which another one takes all bits has no bits beside those
+pub bits_among : (byte others k : ℕ) → others < 2 ^ 8 → bit_and byte (bit_not w8 others) ≡ 0 → k < 8 → has_bit byte k ≡ true → has_bit others k ≡ true
+bits_among byte others k below none eight is =
+    both (has_bit byte k) (has_bit others k) is
+    (ap (λ b. has_bit byte k && b) (sym (has_bit-not w8 others k below eight)) ∙ sym (has_bit-and byte (bit_not w8 others) k)
+    ∙ ap (λ n. has_bit n k) none ∙ has_bit-zero k)
+  where
+    both : (a b : Bool) → a ≡ true → (a && not b) ≡ false → b ≡ true
+    both true true e f = refl
+    both true false e f = absurd (cc)
+    both false b e f = absurd (cc)

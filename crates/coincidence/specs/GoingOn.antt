@@ -1,0 +1,76 @@
+-- Alarms that go on in a plain zone: each of them counts, and changes nothing of what is kept of its point.
+use Rattle.std.specs.Prelude.{◌≡◌, [], ◌∷◌, ◌+◌, ◌<◌, ℕ, List, Some, slice_get, slice_index_or, true}
+use Rattle.site_types.specs.declared.heard.Heard.TheVariants.{Alarm}
+use Rattle.site_types.specs.declared.retained.Retained.{Retained}
+use Rattle.site_types.specs.declared.site.Site.{Site}
+use Rattle.site_types.specs.Done.{Done}
+use Rattle.answer_lanes.specs.Places.{has_place}
+use Rattle.site_types.specs.declared.answer.Answer.{Answer}
+use Rattle.site_types.specs.Bits.{has_bit}
+use Rattle.answer_lanes.specs.declared.answer_group.AnswerGroup.{AnswerGroup}
+use Rattle.answer_lanes.specs.declared.run.Run.{Run}
+use Rattle.answer_lanes.specs.Points.{answer_at, mask_if}
+use Rattle.coincidence_rules.specs.Counted.{is_alarm, is_silent}
+use Rattle.coincidence_rules.specs.declared.finding.Finding.{Finding}
+use Rattle.coincidence.specs.declared.decide.Decide.{Decide}
+use Rattle.coincidence.specs.declared.point_watch.PointWatch.{PointWatch}
+use Rattle.coincidence.specs.declared.zone_watch.ZoneWatch.{ZoneWatch}
+use Rattle.coincidence.specs.Changes.{FindsNext, TakesAnswers}
+use Rattle.coincidence.specs.Places.{GoesOnFrom}
+use Rattle.coincidence.specs.Stands.{DecidesFor}
+
+-- an answer is an alarm of one of the points whose alarms go on
+pub record IsMarkedAlarm (decide : Decide) (answer : Answer) : Type 0 where
+  pub alarm : answer.heard ≡ Alarm
+  pub has : has_place decide.going_on answer.point ≡ true
+
+-- so are all answers of a run of which the bits of a byte tell
+abbrev pub AreMarkedAlarms : Decide → Run AnswerGroup → ℕ → Type 0
+AreMarkedAlarms decide run bits =
+    (k : ℕ) → k < run.count → has_bit bits k ≡ true → IsMarkedAlarm decide (answer_at run.first (run.taken + k))
+
+-- an answer is of a point in a zone
+pub record IsInZone (decide : Decide) (answer : Answer) (zone : ℕ) : Type 0 where
+  pub watch : PointWatch
+  pub read : watch ≡ slice_index_or decide.points answer.point watch
+  pub own : zone ≡ watch.zone
+
+-- so are all answers of a run of which the bits of a byte tell
+abbrev pub AreInZone : Decide → Run AnswerGroup → ℕ → ℕ → Type 0
+AreInZone decide run bits zone =
+    (k : ℕ) → k < run.count → has_bit bits k ≡ true → IsInZone decide (answer_at run.first (run.taken + k)) zone
+
+-- from an answer's tick on the alarms of its point go on
+abbrev pub IsSteady : Decide → Answer → Type 0
+IsSteady decide answer = (point : PointWatch) (zone : ZoneWatch) → slice_get decide.points answer.point ≡ Some point
+    → slice_get decide.zones.items point.zone ≡ Some zone → GoesOnFrom answer.stamp.0 decide.reset point zone
+
+-- no more than the points whose alarms go on is kept anew
+pub record MarksGoingOn (old decide : Decide) : Type 0 where
+  pub points : decide.points ≡ old.points
+  pub zones : decide.zones.items ≡ old.zones.items
+  pub reset : decide.reset ≡ old.reset
+  pub stands : (site : Site) (kept : Retained) (panel : ℕ) (done : List Done) (taken : List Answer)
+      → DecidesFor site kept panel done taken old → DecidesFor site kept panel done taken decide
+
+-- the finding of an answer that confirms and releases these zones where it is an alarm
+abbrev pub telling_of : ℕ → Answer → Finding
+telling_of zones answer = record {
+  stamp = answer.stamp;
+  point = answer.point;
+  counted = mask_if (is_alarm answer.heard) zones;
+  confirmed = mask_if (is_alarm answer.heard) zones;
+  manual = 0;
+  released = mask_if (is_alarm answer.heard) zones;
+  missing = is_silent answer.heard;
+}
+
+-- an alarm leaves all that is kept as it is, and confirms and releases these zones
+pub record ConfirmsAgain (decide : Decide) (answer : Answer) (zones : ℕ) : Type 0 where
+  pub taken : TakesAnswers decide (answer ∷ []) decide
+  pub found : FindsNext decide answer (telling_of zones answer)
+
+-- so do all answers of a run of which the bits of a byte tell
+abbrev pub AllConfirmAgain : Decide → Run AnswerGroup → ℕ → ℕ → Type 0
+AllConfirmAgain decide run bits zones =
+    (k : ℕ) → k < run.count → has_bit bits k ≡ true → ConfirmsAgain decide (answer_at run.first (run.taken + k)) zones
