@@ -81,11 +81,7 @@ impl Decide {
             return;
         }
         if answers.fits_turn() {
-            let (front, back) = answers.runs();
-            self.take_runs(front, findings);
-            if back.len() > 0 {
-                self.take_runs(back, findings);
-            }
+            self.take_runs(answers.runs(), findings);
             answers.take_all();
             return;
         }
