@@ -19,7 +19,8 @@ invariant_of-self g c =
     let new = c.put.new.self in
     subst (λ runs. AreInLane g.S.Several.item_at runs (old.put + c.args.run.count) old.taken old.capacity (vec_capacity new.runs)) (sym c.put.ensures.runs)
     (put_more g.S.Several.item_at (queued old.runs) c.args.run old.put old.taken old.capacity (vec_capacity old.runs.runs) (vec_capacity new.runs)
-    c.self.invariant c.if-run-gt0.true c.requires.run (fits_in (all_items g.S.Several.item_at (queued old.runs)) old.put old.taken old.quota old.capacity c.args.run.count c.args.self.now c.self.view_is
+    c.self.invariant c.if-run-gt0.true c.requires.run
+    (fits_in (all_items g.S.Several.item_at (queued old.runs)) old.put old.taken old.quota old.capacity c.args.run.count c.args.self.now c.self.view_is
     c.requires.room) c.put.ensures.room)
 
 pub returns-then-run-gt0 : goal.returns-then-run-gt0

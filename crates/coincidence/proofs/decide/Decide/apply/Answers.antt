@@ -33,7 +33,8 @@ returns-in-Reset c site kept panel done taken stands may =
 
 pub returns-in-Cancel : goal.returns-in-Cancel
 returns-in-Cancel c site kept panel done taken stands may =
-    cancel_stands (forgotten stands c.clear.new.self c.clear.ensures) c.args.at c.clear.ensures.none c.args.operation.now may c.in-Cancel.zone c.index_mut.result.now c.cancel.new.self c.index_mut.ensures.value
+    cancel_stands (forgotten stands c.clear.new.self c.clear.ensures) c.args.at c.clear.ensures.none c.args.operation.now may c.in-Cancel.zone
+    c.index_mut.result.now c.cancel.new.self c.index_mut.ensures.value
     c.in-Cancel.is c.cancel.ensures
 
 pub returns-in-Test : goal.returns-in-Test
@@ -43,7 +44,8 @@ returns-in-Test c site kept panel done taken stands may =
 
 pub returns-in-Untest : goal.returns-in-Untest
 returns-in-Untest c site kept panel done taken stands may =
-    untest_stands (forgotten stands c.clear.new.self c.clear.ensures) c.args.at c.clear.ensures.none c.args.operation.now may c.in-Untest.zone c.index_mut-in-Untest.result.now c.set_test-in-Untest.new.self
+    untest_stands (forgotten stands c.clear.new.self c.clear.ensures) c.args.at c.clear.ensures.none c.args.operation.now may c.in-Untest.zone
+    c.index_mut-in-Untest.result.now c.set_test-in-Untest.new.self
     c.index_mut-in-Untest.ensures.value c.in-Untest.is c.set_test-in-Untest.ensures
 
 pub returns-in-Disable : goal.returns-in-Disable
