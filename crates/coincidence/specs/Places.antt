@@ -1,5 +1,6 @@
 -- The points that a set of places has.
-use Rattle.std.specs.Prelude.{◌≡◌, ◌+◌, ◌*◌, ◌<◌, ◌≤◌, ◌||◌, ℕ, Bool, List, None, Some, false, length, max, slice_get, true}
+use Rattle.std.specs.Prelude.{◌≡◌, ◌+◌, ◌*◌, ◌<◌, ◌≤◌, ◌||◌, ℕ, Bool, List, None, Some, false, length, max}
+use Rattle.std.specs.Prelude.{slice_get, true}
 use Rattle.tick_units.specs.declared.last_done.LastDone.{LastDone}
 use Rattle.tick_units.specs.declared.tick.Tick.{Tick}
 use Rattle.tick_units.specs.LastTicks.{last_at}
@@ -27,13 +28,14 @@ pub record GoesOnFrom (since : ℕ) (reset : LastDone) (point : PointWatch) (zon
   pub detector : point.manual ≡ false
   pub rule : zone.rule ≡ Plain
   pub partner : zone.partner ≡ None
-  pub counts : (x : ℕ) → since ≤ x → (switch_at x point.off || (switch_at x zone.off || switch_at x zone.test)) ≡ false
+  pub counts : (x : ℕ) → since ≤ x
+      → (switch_at x point.off || (switch_at x zone.off || switch_at x zone.test)) ≡ false
   pub stays : (x : ℕ) (floor : Tick) → since ≤ x → floor.0 ≡ max (last_at x reset) (last_at x zone.moved)
       → StaysNoted Alarm true floor point
 
 -- so it is with all points that a set has
-pub record HasGoingOn (set : PlaceSet) (since : ℕ) (reset : LastDone) (points : List PointWatch) (zones : List ZoneWatch) :
-    Type 0 where
+pub record HasGoingOn (set : PlaceSet) (since : ℕ) (reset : LastDone) (points : List PointWatch)
+    (zones : List ZoneWatch) : Type 0 where
   pub room : length points ≤ 8 * length set.bytes.items
   pub all : (place : ℕ) (point : PointWatch) (zone : ZoneWatch) → has_place set place ≡ true
       → slice_get points place ≡ Some point → slice_get zones point.zone ≡ Some zone → GoesOnFrom since reset point zone
