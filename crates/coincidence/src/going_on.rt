@@ -12,7 +12,8 @@ use site_types::{Answer, Heard, with_bit_8};
 use tick_units::Tick;
 
 impl Decide {
-    ghost use Rattle.coincidence.specs.GoingOn.{AllConfirmAgain, AreInZone, AreMarkedAlarms, IsToBeMarked, MarksGoingOn};
+    ghost use Rattle.coincidence.specs.GoingOn.{AllConfirmAgain, AreInZone, AreMarkedAlarms, IsToBeMarked};
+    ghost use Rattle.coincidence.specs.GoingOn.{MarksGoingOn};
     ghost use Rattle.coincidence.specs.Resting.{IsWithinEight, TellsChanging};
     ghost use Rattle.coincidence.specs.PlainZones.{IsOfPoint};
     ghost use Rattle.coincidence.specs.Stands.{CanTake};
