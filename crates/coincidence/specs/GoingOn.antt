@@ -41,8 +41,8 @@ AreInZone decide run bits zone =
     (k : ℕ) → k < run.count → has_bit bits k ≡ true → IsInZone decide (answer_at run.first (run.taken + k)) zone
 
 -- from an answer's tick on the alarms of its point go on
-abbrev pub IsSteady : Decide → Answer → Type 0
-IsSteady decide answer = (point : PointWatch) (zone : ZoneWatch) → slice_get decide.points answer.point ≡ Some point
+abbrev pub IsToBeMarked : Decide → Answer → Type 0
+IsToBeMarked decide answer = (point : PointWatch) (zone : ZoneWatch) → slice_get decide.points answer.point ≡ Some point
     → slice_get decide.zones.items point.zone ≡ Some zone → GoesOnFrom answer.stamp.0 decide.reset point zone
 
 -- no more than the points whose alarms go on is kept anew

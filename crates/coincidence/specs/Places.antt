@@ -1,6 +1,6 @@
 -- The points that a set of places has.
-use Rattle.std.specs.Prelude.{◌≡◌, ◌+◌, ◌*◌, ◌<◌, ◌≤◌, ◌||◌, ℕ, Bool, List, None, Some}
-use Rattle.std.specs.Prelude.{false, length, max, slice_get, true}
+use Rattle.std.specs.Prelude.{◌≡◌, ◌+◌, ◌*◌, ◌<◌, ◌≤◌, ◌||◌, ℕ, Bool, List, None, Some, false, length, max}
+use Rattle.std.specs.Prelude.{slice_get, true}
 use Rattle.tick_units.specs.declared.last_done.LastDone.{LastDone}
 use Rattle.tick_units.specs.declared.tick.Tick.{Tick}
 use Rattle.tick_units.specs.LastTicks.{last_at}
@@ -28,7 +28,8 @@ pub record GoesOnFrom (since : ℕ) (reset : LastDone) (point : PointWatch) (zon
   pub detector : point.manual ≡ false
   pub rule : zone.rule ≡ Plain
   pub partner : zone.partner ≡ None
-  pub counts : (x : ℕ) → since ≤ x → (switch_at x point.off || (switch_at x zone.off || switch_at x zone.test)) ≡ false
+  pub counts : (x : ℕ) → since ≤ x
+      → (switch_at x point.off || (switch_at x zone.off || switch_at x zone.test)) ≡ false
   pub stays : (x : ℕ) (floor : Tick) → since ≤ x → floor.0 ≡ max (last_at x reset) (last_at x zone.moved)
       → StaysNoted Alarm true floor point
 

@@ -32,8 +32,9 @@ pub struct Decide {
     pub(crate) zones: Vec<ZoneWatch>,
     /// The last reset of the panel.
     pub(crate) reset: LastDone,
-    /// Points whose alarms change nothing of what is kept, if they are asked in this tick or later.
+    /// The marked points: their alarms count and change nothing of what is kept.
     pub(crate) going_on: PlaceSet,
+    /// The latest tick in which one was marked: nothing is said of alarms of earlier ticks.
     pub(crate) since: Tick,
 }
 

@@ -12,7 +12,8 @@ use site_types::{Answer, Heard, with_bit_8};
 use tick_units::Tick;
 
 impl Decide {
-    ghost use Rattle.coincidence.specs.GoingOn.{AllConfirmAgain, AreInZone, AreMarkedAlarms, IsSteady, MarksGoingOn};
+    ghost use Rattle.coincidence.specs.GoingOn.{AllConfirmAgain, AreInZone, AreMarkedAlarms, IsToBeMarked};
+    ghost use Rattle.coincidence.specs.GoingOn.{MarksGoingOn};
     ghost use Rattle.coincidence.specs.Resting.{IsWithinEight, TellsChanging};
     ghost use Rattle.coincidence.specs.PlainZones.{IsOfPoint};
     ghost use Rattle.coincidence.specs.Stands.{CanTake};
@@ -88,7 +89,7 @@ impl Decide {
     fn is_steady(&self, answer: &Answer, zone: &PlainZone) -> bool
         requires can { CanTake self.now (answer.now ∷ []) }
         requires zone { IsOfPoint answer.now self.now zone.now }
-        ensures { result ≡ true → IsSteady self.now answer.now }
+        ensures { result ≡ true → IsToBeMarked self.now answer.now }
     {
         let point = self.points.at(answer.point as usize);
         if point.off.since.0 >= answer.stamp.0 {

@@ -29,23 +29,25 @@ set_test-requires-in-Untest c =
 
 pub returns-in-Reset : goal.returns-in-Reset
 returns-in-Reset c site kept panel done taken stands may =
-    reset_stands (forgotten stands c.clear.new.self c.clear.ensures) c.args.at c.clear.ensures.none c.args.operation.now may c.raise.new.self c.in-Reset.is c.raise.ensures
+    reset_stands (forgotten stands c.clear.new.self c.clear.ensures) c.args.at c.clear.ensures.none c.args.operation.now may
+    c.raise.new.self c.in-Reset.is c.raise.ensures
 
 pub returns-in-Cancel : goal.returns-in-Cancel
 returns-in-Cancel c site kept panel done taken stands may =
-    cancel_stands (forgotten stands c.clear.new.self c.clear.ensures) c.args.at c.clear.ensures.none c.args.operation.now may c.in-Cancel.zone
-    c.index_mut.result.now c.cancel.new.self c.index_mut.ensures.value
+    cancel_stands (forgotten stands c.clear.new.self c.clear.ensures) c.args.at c.clear.ensures.none c.args.operation.now may
+    c.in-Cancel.zone c.index_mut.result.now c.cancel.new.self c.index_mut.ensures.value
     c.in-Cancel.is c.cancel.ensures
 
 pub returns-in-Test : goal.returns-in-Test
 returns-in-Test c site kept panel done taken stands may =
-    test_stands (forgotten stands c.clear.new.self c.clear.ensures) c.args.at c.clear.ensures.none c.args.operation.now may c.in-Test.zone c.index_mut-in-Test.result.now c.set_test.new.self
+    test_stands (forgotten stands c.clear.new.self c.clear.ensures) c.args.at c.clear.ensures.none c.args.operation.now may
+    c.in-Test.zone c.index_mut-in-Test.result.now c.set_test.new.self
     c.index_mut-in-Test.ensures.value c.in-Test.is c.set_test.ensures
 
 pub returns-in-Untest : goal.returns-in-Untest
 returns-in-Untest c site kept panel done taken stands may =
-    untest_stands (forgotten stands c.clear.new.self c.clear.ensures) c.args.at c.clear.ensures.none c.args.operation.now may c.in-Untest.zone
-    c.index_mut-in-Untest.result.now c.set_test-in-Untest.new.self
+    untest_stands (forgotten stands c.clear.new.self c.clear.ensures) c.args.at c.clear.ensures.none c.args.operation.now may
+    c.in-Untest.zone c.index_mut-in-Untest.result.now c.set_test-in-Untest.new.self
     c.index_mut-in-Untest.ensures.value c.in-Untest.is c.set_test-in-Untest.ensures
 
 pub returns-in-Disable : goal.returns-in-Disable
@@ -60,7 +62,8 @@ returns-in-Enable c site kept panel done taken stands may =
 
 pub returns-in-Mute : goal.returns-in-Mute
 returns-in-Mute c site kept panel done taken stands may =
-    idle_stands (forgotten stands c.clear.new.self c.clear.ensures) c.args.at c.clear.ensures.none c.args.operation.now may (idle_is c.args.at panel c.args.operation.now c.in-Mute.is)
+    idle_stands (forgotten stands c.clear.new.self c.clear.ensures) c.args.at c.clear.ensures.none c.args.operation.now may
+    (idle_is c.args.at panel c.args.operation.now c.in-Mute.is)
 
 pub set_off-requires-clause-can : goal.set_off-requires-clause-can
 set_off-requires-clause-can c =
