@@ -4,7 +4,8 @@ pub mod PlaceSets
 -- the list of a run's items, and one finding more in a group or behind a run
 pub mod Expanded
 pub mod FindingRuns
--- taking from a lane: item by item, whole runs from its front, or all that lies in it
+-- taking from a lane: the runs in its room, item by item, whole runs from its front, or all that lies in it
+pub mod Queues
 pub mod Moving
 pub mod WholeRuns
 pub mod AllRuns

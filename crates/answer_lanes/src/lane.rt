@@ -27,7 +27,7 @@ impl<S: Several> Model for Lane<S> {
     ghost use Rattle.tick_units.specs.Lane.{LaneState};
     ghost use Rattle.answer_lanes.specs.Runs.{AreInLane, all_items};
     ghost use Rattle.answer_lanes.specs.Queues.{queued};
-    ghost use Rattle.std.specs.Prelude.{vec_capacity};
+    ghost use Rattle.std.specs.Prelude.{length};
 
     ghost Value = { LaneState S.Item };
 
@@ -40,7 +40,7 @@ impl<S: Several> Model for Lane<S> {
     } };
 
     ghost invariant = { λ l. AreInLane S.item_at (queued l.runs) l.put l.taken l.capacity
-        (vec_capacity l.runs.runs) };
+        (length l.runs.room.items) };
 }
 
 impl<S: Several> Lane<S> {
@@ -48,7 +48,7 @@ impl<S: Several> Lane<S> {
     pub fn new(alloc: Global, quota: usize, capacity: usize) -> Result<Lane<S>, NoMemory>
         ensures { IfOk result (λ l. l ≡ empty_lane quota capacity) }
     {
-        let runs = RunQueue::with_capacity(alloc, capacity)?;
+        let runs = RunQueue::with_room(alloc, capacity)?;
         Ok(Lane {
             runs,
             quota,
@@ -140,9 +140,9 @@ impl<S: Several> Lane<S> {
     }
 }
 
-ghost use Rattle.std.specs.Prelude.{◌<◌, Some, slice_get, vec_capacity};
+ghost use Rattle.std.specs.Prelude.{◌<◌, Some, slice_get};
 ghost use Rattle.answer_lanes.specs.Moves.{AreWhole, MayMove, MovesItems};
-ghost use Rattle.answer_lanes.specs.Queues.{queued};
+ghost use Rattle.answer_lanes.specs.Queues.{HasSameRoom, queued};
 ghost use Rattle.answer_lanes.specs.Runs.{rest_of};
 
 // Moves the first items of the runs of a lane into an empty list. The last run that is moved may be parted.
@@ -151,7 +151,7 @@ fn move_runs<S: Several>(runs: &mut RunQueue<S>, into: &mut ArrayVec<Run<S>, 32>
     requires few { count ≤ 32 }
     requires may { MayMove S.item_at count (queued runs.old) }
     ensures moves { MovesItems S.item_at count (queued runs.old) into.new.items (queued runs.new) }
-    ensures same { vec_capacity runs.new.runs ≡ vec_capacity runs.old.runs }
+    ensures room { HasSameRoom runs.old runs.new }
 {
     let whole = move_whole(runs, into, count);
     let mut left = count - whole.items;
@@ -173,7 +173,7 @@ fn cut_first<S: Several>(runs: &mut RunQueue<S>, run: &Run<S>, taken: u8)
     ensures whole { run.now.count ≤ taken → queued runs.new ≡ drop 1 (queued runs.old) }
     ensures parted { taken < run.now.count
         → queued runs.new ≡ rest_of taken run.now ∷ drop 1 (queued runs.old) }
-    ensures same { vec_capacity runs.new.runs ≡ vec_capacity runs.old.runs }
+    ensures room { HasSameRoom runs.old runs.new }
 {
     if taken < run.count {
         runs.set_first(run.rest(taken));
@@ -193,7 +193,7 @@ fn move_whole<S: Several>(
     ensures whole { AreWhole S.item_at most (queued runs.old) result.runs result.items }
     ensures moved { into.new.items ≡ into.old.items ++ take result.runs (queued runs.old) }
     ensures rest { queued runs.new ≡ drop result.runs (queued runs.old) }
-    ensures same { vec_capacity runs.new.runs ≡ vec_capacity runs.old.runs }
+    ensures room { HasSameRoom runs.old runs.new }
 {
     let front = runs.as_slice();
     let whole = whole_runs(front, most);

@@ -3,68 +3,82 @@ ghost use Rattle.std.specs.Prelude.{◌≤◌, length};
 use crate::run::Run;
 use std::alloc::{AllocError, Global};
 
-/// Runs in the order in which they were put. Those that were taken stay where they lie until there is no other room.
+/// Runs in the order in which they were put, behind one another in a room that is taken once. The room of those that
+/// were taken is used again when there is no other.
 #[derive(Drop)]
 pub(crate) struct RunQueue<S: Copy> {
-    runs: Vec<Run<S>>,
-    /// How many of them were taken.
-    gone: usize,
-    ghost within: { gone ≤ length runs.items },
+    room: Vec<Run<S>>,
+    /// Where in the room the first run lies.
+    begin: usize,
+    /// The place behind the last one.
+    end: usize,
+    ghost in_order: { begin ≤ end },
+    ghost within: { end ≤ length room.items },
+}
+
+impl<S: Copy + Default> RunQueue<S> {
+    ghost use Rattle.std.specs.Prelude.{◌≡◌, [], IfOk};
+    ghost use Rattle.answer_lanes.specs.Queues.{queued};
+
+    /// A queue without runs, with room for so many.
+    pub(crate) fn with_room(alloc: Global, count: usize) -> Result<RunQueue<S>, AllocError>
+        ensures empty { IfOk result (λ queue. queued queue ≡ []) }
+        ensures room { IfOk result (λ queue. length queue.room.items ≡ count) }
+    {
+        let room = vec![in alloc; Run::default(); count]?;
+        Ok(RunQueue {
+            room,
+            begin: 0,
+            end: 0,
+        })
+    }
 }
 
 impl<S: Copy> RunQueue<S> {
-    ghost use Rattle.std.specs.Prelude.{◌≡◌, ◌<◌, ◌∷◌, ◌++◌, [], IfOk, drop, slice_get, vec_capacity};
-    ghost use Rattle.answer_lanes.specs.Queues.{HasRoomFor, queued};
-
-    /// A queue without runs, with room for so many.
-    pub(crate) fn with_capacity(alloc: Global, capacity: usize) -> Result<RunQueue<S>, AllocError>
-        ensures empty { IfOk result (λ queue. queued queue ≡ []) }
-        ensures room { IfOk result (HasRoomFor capacity) }
-    {
-        let runs = Vec::with_capacity(alloc, capacity)?;
-        Ok(RunQueue { runs, gone: 0 })
-    }
+    ghost use Rattle.std.specs.Prelude.{◌≡◌, ◌<◌, ◌∷◌, ◌++◌, [], drop, slice_get};
+    ghost use Rattle.answer_lanes.specs.Queues.{HasSameRoom, queued};
 
     /// Puts a run behind the others, of which there are fewer than it has room for.
     pub(crate) fn put(&mut self, run: Run<S>)
-        requires { length (queued self.old) < vec_capacity self.old.runs }
+        requires { length (queued self.old) < length self.old.room.items }
         ensures runs { queued self.new ≡ queued self.old ++ run ∷ [] }
-        ensures room { vec_capacity self.old.runs ≤ vec_capacity self.new.runs }
+        ensures room { HasSameRoom self.old self.new }
     {
         self.make_room();
-        let _room = self.runs.push(run);
+        self.room[self.end] = run;
+        self.end += 1;
     }
 
     // Makes room for one run more behind the others.
     fn make_room(&mut self)
-        requires { length (queued self.old) < vec_capacity self.old.runs }
+        requires { length (queued self.old) < length self.old.room.items }
         ensures runs { queued self.new ≡ queued self.old }
-        ensures room { length self.new.runs.items < vec_capacity self.new.runs }
-        ensures same { vec_capacity self.new.runs ≡ vec_capacity self.old.runs }
+        ensures behind { self.new.end < length self.new.room.items }
+        ensures room { HasSameRoom self.old self.new }
     {
-        if self.runs.len() < self.runs.capacity() {
+        if self.end < self.room.len() {
             return;
         }
         self.close_up();
     }
 
-    // Gives up the room of the runs that were taken.
-    #[cold]
+    // Moves the runs to the front of the room.
+    #[inline(never)]
     fn close_up(&mut self)
-        ensures runs { self.new.runs.items ≡ queued self.old }
-        ensures none { self.new.gone ≡ 0 }
-        ensures same { vec_capacity self.new.runs ≡ vec_capacity self.old.runs }
+        ensures runs { queued self.new ≡ queued self.old }
+        ensures end { self.new.end ≡ length (queued self.old) }
+        ensures room { HasSameRoom self.old self.new }
     {
-        let gone = self.gone;
-        drop(self.runs.drain(..gone));
-        self.gone = 0;
+        self.room.copy_within(self.begin..self.end, 0);
+        self.end -= self.begin;
+        self.begin = 0;
     }
 
     /// The runs, the first one in front.
     pub(crate) fn as_slice(&self) -> &[Run<S>]
         ensures { result.now ≡ queued self.now }
     {
-        &self.runs.as_slice()[self.gone..]
+        &self.room.as_slice()[self.begin..self.end]
     }
 
     /// The first run.
@@ -78,26 +92,26 @@ impl<S: Copy> RunQueue<S> {
     pub(crate) fn set_first(&mut self, run: Run<S>)
         requires { 0 < length (queued self.old) }
         ensures runs { queued self.new ≡ run ∷ drop 1 (queued self.old) }
-        ensures same { vec_capacity self.new.runs ≡ vec_capacity self.old.runs }
+        ensures room { HasSameRoom self.old self.new }
     {
-        self.runs[self.gone] = run;
+        self.room[self.begin] = run;
     }
 
     /// Takes the first runs out, so many.
     pub(crate) fn take(&mut self, count: usize)
         requires { count ≤ length (queued self.old) }
         ensures runs { queued self.new ≡ drop count (queued self.old) }
-        ensures same { vec_capacity self.new.runs ≡ vec_capacity self.old.runs }
+        ensures room { HasSameRoom self.old self.new }
     {
-        self.gone += count;
+        self.begin += count;
     }
 
     /// Takes all runs out.
     pub(crate) fn clear(&mut self)
         ensures runs { queued self.new ≡ [] }
-        ensures same { vec_capacity self.new.runs ≡ vec_capacity self.old.runs }
+        ensures room { HasSameRoom self.old self.new }
     {
-        self.runs.clear();
-        self.gone = 0;
+        self.begin = 0;
+        self.end = 0;
     }
 }

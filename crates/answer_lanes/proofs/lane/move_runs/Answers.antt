@@ -10,7 +10,7 @@ loop-left-init g c =
       moving = moved_whole g.S.Several.item_at c.args.count (queued c.args.runs.now) first.result.runs first.result.items c.args.into.now.items
           first.new.into.items (queued first.new.runs) c.requires.may c.requires.few c.requires.empty first.ensures.whole first.ensures.moved
           first.ensures.rest;
-      same = first.ensures.same;
+      same = first.ensures.room;
     }
 
 pub cut_first-requires : goal.cut_first-requires
@@ -46,7 +46,7 @@ loop-left-preserved g c =
     record {
       moving = goes_on item_at c.args.count start l.left l.into.items (queued l.runs) h some c.in-Some.run' front at is_front into pushed
           (queued cut.new.runs) cut.ensures.whole cut.ensures.parted;
-      same = cut.ensures.same ∙ l.invariant.same;
+      same = cut.ensures.room ∙ l.invariant.same;
     }
 
 pub returns-clause-moves : goal.returns-clause-moves

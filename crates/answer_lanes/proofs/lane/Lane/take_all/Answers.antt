@@ -1,5 +1,4 @@
 use Rattle.std.proofs.Common.{◌∙◌, length, ap, arith}
-use Rattle.std.specs.Prelude.{vec_capacity}
 use Rattle.tick_units.specs.Lane.{LaneState, after_turn}
 use Rattle.answer_lanes.specs.Queues.{queued}
 use Rattle.answer_lanes.specs.Runs.{all_items}
@@ -20,7 +19,7 @@ returns g c =
 pub invariant_of-self : goal.invariant_of-self
 invariant_of-self g c =
     let l = c.self.inside in
-    let same = c.clear.ensures.same in
+    let same = c.clear.ensures.room in
     let enough = c.self.invariant.enough in
-    none_in_lane g.S.Several.item_at (queued c.clear.new.self) l.put l.capacity (vec_capacity c.clear.new.self.runs) c.clear.ensures.runs
+    none_in_lane g.S.Several.item_at (queued c.clear.new.self) l.put l.capacity (length c.clear.new.self.room.items) c.clear.ensures.runs
     (omega (arith, same, enough))

@@ -1,5 +1,4 @@
 use Rattle.std.proofs.Common.{rules, ◌≤◌, length, ap, arith}
-use Rattle.std.specs.Prelude.{vec_capacity}
 use Rattle.tick_units.specs.Lane.{LaneState}
 use Rattle.answer_lanes.specs.Queues.{queued}
 use Rattle.answer_lanes.specs.Runs.{all_items}
@@ -21,7 +20,7 @@ move_runs-requires g c =
         c.requires.empty,
         (
           at_most,
-          may_move g.S.Several.item_at (queued l.runs) l.put l.taken l.capacity (vec_capacity l.runs.runs) c.min-count.result
+          may_move g.S.Several.item_at (queued l.runs) l.put l.taken l.capacity (length l.runs.room.items) c.min-count.result
               c.self.invariant enough,
         ),
       ),
