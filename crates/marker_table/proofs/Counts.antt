@@ -74,18 +74,19 @@ bit_small (ManualInput place) = omega arith
 bit_small (FaultInput place) = omega arith
 bit_small (MarkerInput place) = omega arith
 
-pub mask_with : (mask : Mask) (input : Input) (bit bits : ℕ) → bit ≡ input_bit input → mask.word ≡ input_word input →
+pub mask_with : (mask : Mask) (input : Input) (bit bits : ℕ) → bit ≡ input_bit input → mask.word ≡ input_word input → input_word input < 32 →
     has_bit mask.bits bit ≡ false → bits ≡ with_bit w32 mask.bits bit true → AddsInput input mask (record { word = mask.word; bits = bits })
-mask_with mask input bit bits place same off is readings =
-    let word = slice_index_or readings.words mask.word 0 in
+mask_with mask input bit bits place same within off is readings =
+    let word = slice_index_or readings.words (mask.word % 32) 0 in
+    let here : mask.word % 32 ≡ input_word input = omega (arith, same, within) in
     let at : has_bit word bit ≡ has_bit (slice_index_or readings.words (input_word input) 0) (input_bit input) =
-    ap (has_bit word) place ∙ ap (λ n. has_bit (slice_index_or readings.words n 0) (input_bit input)) same in
+    ap (has_bit word) place ∙ ap (λ n. has_bit (slice_index_or readings.words n 0) (input_bit input)) here in
     let small : bit < 32 = omega (arith, place, bit_small input) in
     ap (λ n. count_ones (bit_and n word)) is ∙ (counts mask.bits bit word small (bit_off mask.bits bit off) (has_bit word bit) refl ∙
     ap (λ b. count_ones (bit_and mask.bits word) + one_if b) at)
 
-pub mask_of_one : (input : Input) (word bit bits : ℕ) → word ≡ input_word input → bit ≡ input_bit input → bits ≡ with_bit w32 0 bit true
+pub mask_of_one : (input : Input) (word bit bits : ℕ) → word ≡ input_word input → word < 32 → bit ≡ input_bit input → bits ≡ with_bit w32 0 bit true
     → AddsInput input (no_mask input) (record { word = word; bits = bits })
-mask_of_one input word bit bits here place is =
+mask_of_one input word bit bits here within place is =
     subst (λ w. AddsInput input (no_mask input) (record { word = w; bits = bits })) (sym here)
-    (mask_with (no_mask input) input bit bits place refl (has_bit-zero bit) is)
+    (mask_with (no_mask input) input bit bits place refl (omega (arith, here, within)) (has_bit-zero bit) is)

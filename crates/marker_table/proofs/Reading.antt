@@ -12,7 +12,7 @@ abbrev pub AreCopied : ℕ → ℕ → List ℕ → List ℕ → Type 0
 AreCopied count first from words = (k : ℕ) → k < count → slice_index_or words (first + k) 0 ≡ slice_index_or from k 0
 
 pub record AreRead (count : ℕ) (zones manual values words : List ℕ) : Type 0 where
-  pub size : length words ≡ 256
+  pub size : length words ≡ 32
   pub first : AreCopied count 0 zones words
   pub next : AreCopied count 8 manual words
   pub last : AreCopied count 17 values words
@@ -33,7 +33,7 @@ copied_beside : (count first at value : ℕ) (from words : List ℕ) → ((k : �
     → AreCopied count first from (slice_set words at value)
 copied_beside count first at value from words apart are k less = get_or-set_other words at (first + k) value 0 (apart k less) ∙ are k less
 
-pub read_none : (zones manual values words : List ℕ) → length words ≡ 256 → AreRead 0 zones manual values words
+pub read_none : (zones manual values words : List ℕ) → length words ≡ 32 → AreRead 0 zones manual values words
 read_none zones manual values words size = record {
   size = size;
   first = λ k less. absurd (omega (arith, less));
@@ -65,10 +65,10 @@ read_more count zones manual values words less are = record {
     with_next : List ℕ
     with_next = slice_set with_first (8 + count) (slice_index_or manual count 0)
 
-    first_size : length with_first ≡ 256
+    first_size : length with_first ≡ 32
     first_size = length-set words count (slice_index_or zones count 0) ∙ are.size
 
-    next_size : length with_next ≡ 256
+    next_size : length with_next ≡ 32
     next_size = length-set with_first (8 + count) (slice_index_or manual count 0) ∙ first_size
 
 -- a marker's bit among words of which the last eight are those of values

@@ -52,7 +52,7 @@ reads readings input = has_bit (slice_index_or readings.words (input_word input)
 
 -- readings have the words of facts
 pub record HasFacts (facts : Facts) (readings : Readings) : Type 0 where
-  pub size : length readings.words ≡ 256
+  pub size : length readings.words ≡ 32
   pub zones : (k : ℕ) → k < 8 → slice_index_or readings.words k 0 ≡ slice_index_or facts.zones k 0
   pub manual : (k : ℕ) → k < 8 → slice_index_or readings.words (8 + k) 0 ≡ slice_index_or facts.manual k 0
   pub faults : slice_index_or readings.words 16 0 ≡ facts.faults
@@ -67,7 +67,7 @@ HasValues values readings = (m : ℕ) → value_read readings m ≡ values m
 
 -- how many inputs of a mask are true
 abbrev pub count_in : Readings → Mask → ℕ
-count_in readings mask = count_ones (bit_and mask.bits (slice_index_or readings.words mask.word 0))
+count_in readings mask = count_ones (bit_and mask.bits (slice_index_or readings.words (mask.word % 32) 0))
 
 abbrev pub one_if : Bool → ℕ
 one_if b = if b then 1 else 0

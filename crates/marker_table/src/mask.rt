@@ -42,6 +42,6 @@ impl Mask {
     pub(crate) fn count(&self, readings: &Readings) -> u32
         ensures { result ≡ count_in readings.now self.now }
     {
-        (self.bits & readings.words[self.word as usize]).count_ones()
+        (self.bits & readings.words[(self.word % 32) as usize]).count_ones()
     }
 }

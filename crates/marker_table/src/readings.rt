@@ -17,8 +17,8 @@ pub(crate) const MARKERS_FROM: usize = 17;
 /// What markers look at, word by word: facts and the values of the markers.
 #[derive(Clone, Copy)]
 pub struct Readings {
-    // As many as a byte can name, of which the last ones are 0.
-    pub(crate) words: [u32; 256],
+    // As many as five bits can name, of which the last ones are 0.
+    pub(crate) words: [u32; 32],
 }
 
 impl Readings {
@@ -27,7 +27,7 @@ impl Readings {
         ensures facts { HasFacts facts.now result }
         ensures values { HasValues (values_of values.now) result }
     {
-        let mut words = [0; 256];
+        let mut words = [0; 32];
         for place in 0..8 {
             words[place] = facts.zones[place];
             words[MANUAL_FROM + place] = facts.manual[place];
