@@ -1,11 +1,8 @@
 -- What is asked for of a panel's own outputs is what is asked for of all.
-use Rattle.std.proofs.Common.{◌≡◌, ◌∙◌, ◌<◌, ◌≤◌, ◌+◌, ◌^◌, ◌/◌, ◌%◌, ◌==◌, ◌&&◌, ◌||◌, nat_eq, ℕ, Bool, true, false, List, [], ◌∷◌, Some, suc, length, take, ap, sym, refl, inl, inr, arith, lit<}
-use Rattle.std.specs.Cmp.Lexicographic.{pointwise}
+use Rattle.std.proofs.Common.{◌≡◌, ◌∙◌, ◌<◌, ◌≤◌, ◌+◌, ◌^◌, ◌==◌, ◌&&◌, ◌||◌, ℕ, Bool, true, false, List, [], ◌∷◌, Some, suc, length, take, ap, sym, refl, inl, inr, arith, lit<}
 use Rattle.std.specs.List.{list_any}
 use Rattle.std.specs.Prelude.{slice_get, slice_index_or}
 use Rattle.std.proofs.lemmas.Bool.{cases_lt, ne_eqb}
-use Rattle.std.proofs.lemmas.Bool.Decides.{Decides-eqb}
-use Rattle.std.proofs.lemmas.Slice.Eq.{slice_eq-Decides}
 use Rattle.std.proofs.lemmas.List.{get_or_past, take_all}
 use Rattle.site_types.specs.declared.output.Output.{Output}
 use Rattle.site_types.specs.declared.requests.Requests.{Requests}
@@ -14,8 +11,6 @@ use Rattle.site_types.specs.Bits.{has_bit}
 use Rattle.site_types.specs.Valid.{IsValid}
 use Rattle.site_types.proofs.ValidSites.{output_numbers}
 use Rattle.site_types.proofs.Masks.{has_bit-zero, mask_from_bits, mask_same}
-use Rattle.marker_table.specs.declared.values.Values.{Values}
-use Rattle.marker_table.specs.Equations.{values_of}
 use Rattle.cause_effect.specs.Requests.{asked, asked_among, asks, asks_among, outputs_of}
 
 among_one : (values : ℕ → Bool) (number panel : ℕ) (output : Output) (own : Bool) (rest : List Output) (more : Bool)
@@ -42,11 +37,6 @@ pub asked_known : (values : ℕ → Bool) (outputs : List Output) (mask count : 
 asked_known values outputs mask count fits whole known =
     mask_from_bits 32 mask (λ bit. list_any (asks_among values (bit + 1)) outputs) fits
     (λ bit small. known bit small ∙ ap (list_any (asks_among values (bit + 1))) (take_all count outputs whole))
-
--- what `==` of values says
-pub same_words : (values none : Values) (marker : ℕ) → true ≡ pointwise nat_eq values.words none.words → values_of values marker ≡ values_of none marker
-same_words values none marker h =
-    ap (λ words. has_bit (slice_index_or words (marker / 32) 0) (marker % 32)) ((slice_eq-Decides Decides-eqb values.words none.words _ refl).0 (sym h))
 
 not_asked : (own value more : Bool) → value ≡ false → more ≡ false → ((own && value) || more) ≡ false
 not_asked true value more none others = rw (none, others) refl

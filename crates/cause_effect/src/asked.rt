@@ -23,7 +23,7 @@ pub(crate) fn requests_among(outputs: &[Output], normal: &Values, manual: &Value
 fn asked_by(outputs: &[Output], values: &Values) -> u32
     ensures { result ≡ asked_among (values_of values.now) outputs.now }
 {
-    if *values == Values::none() {
+    if values.is_none() {
         return 0;
     }
     let mut asked = 0;

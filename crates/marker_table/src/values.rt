@@ -1,4 +1,4 @@
-ghost use Rattle.std.specs.Prelude.{◌≡◌, ◌≢◌, ◌<◌, ◌+◌, ◌*◌, ◌||◌, ℕ, false};
+ghost use Rattle.std.specs.Prelude.{◌≡◌, ◌≢◌, ◌<◌, ◌+◌, ◌*◌, ◌||◌, ℕ, false, true};
 ghost use Rattle.site_types.specs.Bits.{has_bit};
 ghost use Rattle.marker_table.specs.Equations.{values_of};
 
@@ -27,6 +27,14 @@ impl Values {
             Some(word) => has_bit_32(*word, (marker % 32) as u8),
             None => false,
         }
+    }
+
+    /// Whether no marker is true.
+    pub fn is_none(&self) -> bool
+        ensures { result ≡ true → (marker : ℕ) → values_of self.now marker ≡ false }
+    {
+        let [a, b, c, d, e, f, g, h] = self.words;
+        (a | b | c | d | e | f | g | h) == 0
     }
 
     /// Which of the 32 markers from a place on are true, that being 32 times a number.

@@ -1,12 +1,10 @@
-use Rattle.std.proofs.Common.{◌∙◌}
 use Rattle.marker_table.specs.Equations.{values_of}
-use Rattle.cause_effect.proofs.Asking.{asked_known, no_marker_asks, same_words}
+use Rattle.cause_effect.proofs.Asking.{asked_known, no_marker_asks}
 use Rattle.cause_effect.proofs.asked.asked_by.Goals as goal
 
-pub returns-then-eq : goal.returns-then-eq
-returns-then-eq c =
-    no_marker_asks (values_of c.args.values.now) c.args.outputs.now
-    (λ marker. same_words c.args.values.now c.none.result marker c.if-eq.ensures ∙ c.none.ensures marker)
+pub returns-then-is_none : goal.returns-then-is_none
+returns-then-is_none c =
+    no_marker_asks (values_of c.args.values.now) c.args.outputs.now (c.is_none.ensures c.if-is_none.true)
 
 pub returns : goal.returns
 returns c =
