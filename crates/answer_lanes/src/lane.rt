@@ -73,7 +73,7 @@ impl<S: Several> Lane<S> {
         ensures { self.new ≡ with_put self.old (items_of S.item_at run) }
     {
         if run.count > 0 {
-            self.runs.put(run);
+            self.runs.put(&run);
             self.put += run.count as u64;
         }
     }

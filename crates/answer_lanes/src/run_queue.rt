@@ -39,13 +39,13 @@ impl<S: Copy> RunQueue<S> {
     ghost use Rattle.answer_lanes.specs.Queues.{HasSameRoom, queued};
 
     /// Puts a run behind the others, of which there are fewer than it has room for.
-    pub(crate) fn put(&mut self, run: Run<S>)
+    pub(crate) fn put(&mut self, run: &Run<S>)
         requires { length (queued self.old) < length self.old.room.items }
-        ensures runs { queued self.new ≡ queued self.old ++ run ∷ [] }
+        ensures runs { queued self.new ≡ queued self.old ++ run.now ∷ [] }
         ensures room { HasSameRoom self.old self.new }
     {
         self.make_room();
-        self.room[self.end] = run;
+        self.room[self.end] = *run;
         self.end += 1;
     }
 
