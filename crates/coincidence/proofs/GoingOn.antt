@@ -37,11 +37,12 @@ use Rattle.coincidence.specs.Observations.{Judges}
 use Rattle.coincidence.specs.Parts.{StaysNoted, switch_at}
 use Rattle.coincidence.specs.PlainZones.{IsKnown, IsOfPoint, IsSaidAt}
 use Rattle.coincidence.specs.Premises.{MayTake}
-use Rattle.coincidence.specs.Resting.{IsWithinEight}
+use Rattle.coincidence.specs.Resting.{IsWithinEight, TellsChanging}
 use Rattle.coincidence.specs.Stands.{CanObserve, CanTake, DecidesFor, Fits}
 use Rattle.coincidence.proofs.FindingIs.{HasBit, finding_by}
 use Rattle.coincidence.proofs.PlainAlarms.{plain_alarm_is}
 use Rattle.coincidence.proofs.PlainZones.{gone_on, judged_in, not_silent, point_same, said_of, zone_there}
+use Rattle.coincidence.proofs.Turned.{still_can}
 use Rattle.coincidence.proofs.Watched.{fits_next, read_is, watched}
 
 -- ---- each answer of a run can be observed
@@ -77,16 +78,18 @@ point_of run k within small =
 
 pub item_observed : (decide : Decide) (run : Run AnswerGroup) (k : ℕ) → k < run.count → CanTake decide (items_of answer_at run)
     → CanObserve decide (answer_at run.first (run.taken + k))
-item_observed decide run k small can = record {
-  site = can.site;
-  kept = can.kept;
-  panel = can.panel;
-  done = can.done;
-  taken = can.taken;
-  stands = can.stands;
-  may = fits_among can.site can.kept can.panel can.done can.taken (items_of answer_at run) k (answer_at run.first (run.taken + k)) can.may
-      (item_there run k small);
-}
+item_observed decide run k small can =
+    still_can can (λ site kept panel done taken may. fits_among site kept panel done taken (items_of answer_at run) k
+    (answer_at run.first (run.taken + k)) may (item_there run k small))
+
+-- of an answer of which the bits tell: it can be observed, and where its point stands
+pub told_by_bit : (decide : Decide) (run : Run AnswerGroup) (bits bit : ℕ) → IsWithinEight run → TellsChanging decide run bits
+    → has_bit bits bit ≡ true → CanTake decide (items_of answer_at run)
+    → CanObserve decide (answer_at run.first (run.taken + bit))
+    × ((answer_at run.first (run.taken + bit)).point ≡ run.first.point + (run.taken + bit))
+told_by_bit decide run bits bit within tells on can =
+    let small = tells.within bit on in
+    (item_observed decide run bit small can, point_of run bit within small)
 
 -- ---- an alarm that goes on
 

@@ -7,17 +7,23 @@ use Rattle.tick_units.specs.declared.last_done.LastDone.{LastDone}
 use Rattle.tick_units.specs.declared.switch.Switch.{Switch}
 use Rattle.tick_units.specs.declared.tick.Tick.{Tick}
 use Rattle.tick_units.specs.LastTicks.{last_at}
+use Rattle.site_types.specs.declared.answer.Answer.{Answer}
 use Rattle.site_types.specs.declared.heard.Heard.TheVariants.{Alarm}
+use Rattle.site_types.specs.declared.retained.Retained.{Retained}
+use Rattle.site_types.specs.declared.site.Site.{Site}
+use Rattle.site_types.specs.Done.{Done}
 use Rattle.site_types.proofs.Done.{lt_true}
 use Rattle.answer_lanes.specs.declared.place_set.PlaceSet.{PlaceSet}
 use Rattle.answer_lanes.specs.Places.{HasNone, IsCleared, SetsPlace, has_place}
 use Rattle.coincidence_rules.proofs.Lists.{get_set}
+use Rattle.coincidence.specs.declared.decide.Decide.{Decide}
 use Rattle.coincidence.specs.declared.plain_zone.PlainZone.{PlainZone}
 use Rattle.coincidence.specs.declared.point_watch.PointWatch.{PointWatch}
 use Rattle.coincidence.specs.declared.zone_watch.ZoneWatch.{ZoneWatch}
 use Rattle.coincidence.specs.Parts.{StaysNoted, switch_at, zone_noted}
 use Rattle.coincidence.specs.Places.{GoesOnFrom, HasGoingOn}
 use Rattle.coincidence.specs.PlainZones.{IsSaidAt}
+use Rattle.coincidence.specs.Stands.{DecidesFor}
 
 -- what goes on from a tick on goes on from later ones
 pub later_on : (since later : ℕ) (reset : LastDone) (point : PointWatch) (zone : ZoneWatch) → since ≤ later → GoesOnFrom since reset point zone
@@ -120,3 +126,21 @@ steady_from s reset zone point watch said settled open' before on detector stays
   where
     tick_same : (a b : Tick) → a.0 ≡ b.0 → a ≡ b
     tick_same a b e = let of : ℕ → Tick = λ n. record { 0 = n } in ap of e
+
+-- the part with other marks that are right
+pub marked_anew : {site : Site} {kept : Retained} {panel : ℕ} {done : List Done} {taken : List Answer} {decide : Decide}
+    → DecidesFor site kept panel done taken decide → (marks : PlaceSet) (since : Tick)
+    → HasGoingOn marks since.0 decide.reset decide.points decide.zones.items
+    → DecidesFor site kept panel done taken (record decide { going_on = marks; since = since })
+marked_anew h marks since right = record {
+  wired = h.wired;
+  at = h.at;
+  point_count = h.point_count;
+  zone_count = h.zone_count;
+  points = h.points;
+  zones = h.zones;
+  reset = h.reset;
+  going_on = right;
+  order = h.order;
+  own = h.own;
+}

@@ -26,7 +26,7 @@ use Rattle.coincidence.specs.Parts.{switch_after}
 use Rattle.tick_units.specs.LastTicks.{last_after, last_if}
 use Rattle.answer_lanes.specs.declared.place_set.PlaceSet.{PlaceSet}
 use Rattle.answer_lanes.specs.Places.{HasNone, IsCleared}
-use Rattle.coincidence.proofs.Marked.{cleared_going}
+use Rattle.coincidence.proofs.Marked.{cleared_going, marked_anew}
 use Rattle.coincidence.specs.Stands.{resets, CanApply, IsOwnZone, DecidesFor, off_operation}
 use Rattle.coincidence.specs.Premises.{IsOwn, MayApply}
 use Rattle.coincidence.proofs.AppliedOperation.{done_now, point_then, zone_then, IsAfter, stands_after}
@@ -225,18 +225,7 @@ module _ {site : Site} {kept : Retained} {panel : ℕ} {done : List Done} {taken
 pub forgotten : {site : Site} {kept : Retained} {panel : ℕ} {done : List Done} {taken : List Answer} {decide : Decide}
     → DecidesFor site kept panel done taken decide → (g : PlaceSet) → IsCleared decide.going_on g
     → DecidesFor site kept panel done taken (record decide { going_on = g })
-forgotten h g cleared = record {
-  wired = h.wired;
-  at = h.at;
-  point_count = h.point_count;
-  zone_count = h.zone_count;
-  points = h.points;
-  zones = h.zones;
-  reset = h.reset;
-  going_on = cleared_going g h.going_on cleared;
-  order = h.order;
-  own = h.own;
-}
+forgotten {decide = decide} h g cleared = marked_anew h g decide.since (cleared_going g h.going_on cleared)
 
 pub can_forget : (decide : Decide) (operation : Operation) (tick : ℕ) (g : PlaceSet) → IsCleared decide.going_on g → CanApply decide operation tick
     → CanApply (record decide { going_on = g }) operation tick

@@ -29,7 +29,7 @@ use Rattle.coincidence.specs.PlainZones.{RunGoesOn, IsOfPoint, IsSaidAt, KeepsKn
 use Rattle.coincidence.specs.Stands.{DecidesFor, Fits}
 use Rattle.coincidence.proofs.Judged.{counted_is, floor_is}
 use Rattle.coincidence.proofs.Observations.{floor_judged, judges_read}
-use Rattle.coincidence.proofs.TakenAnswer.{stands_noted}
+use Rattle.coincidence.proofs.TakenAnswer.{stands_noted, zone_as_before}
 use Rattle.coincidence_rules.proofs.Lists.{get_set}
 use Rattle.std.specs.Vec.{with_item}
 use Rattle.std.proofs.lemmas.Option.{get_or_from_slice_get}
@@ -145,18 +145,7 @@ gone_on {site} {kept} {panel} {done} {taken} {decide} stands answer may judgemen
     (subst (HasGoingOn decide.going_on decide.since.0 decide.reset decide.points) (sym items) stands.going_on) same
     (no_pair judgement.counted (not on.watch.manual) s.watch.rule s.said.rule) refl judges.counted
     (floor_judged stands answer fits on.watch on.read judgement judges) in
-    record {
-      wired = noted.wired;
-      at = noted.at;
-      point_count = noted.point_count;
-      zone_count = stands.zone_count;
-      points = noted.points;
-      zones = λ place watch zone is. noted.zones place watch zone (ap (λ xs. slice_get xs place) items ∙ is);
-      reset = noted.reset;
-      going_on = stands.going_on;
-      order = noted.order;
-      own = noted.own;
-    }
+    zone_as_before decide decide.points on.watch.zone s.watch decide.going_on items stands.zone_count stands.going_on noted
 
 -- what is known of a zone stays so where no more than the points whose alarms go on is kept anew
 pub known_marked : (old decide : Decide) → MarksGoingOn old decide → KeepsKnown old decide

@@ -1,6 +1,6 @@
 -- What is kept after one more answer stands for one more answer.
 use Rattle.std.proofs.Common.{◌≡◌, ◌≢◌, ◌⊎◌, inl, inr, ⊎_elim, ℕ, zero, suc, ◌+◌, ◌≤◌, Bool, true, false, not, List}
-use Rattle.std.proofs.Common.{[], ◌∷◌, ◌++◌, set, length-set, reverse, filter, Option, Some, None, slice_get, get_or}
+use Rattle.std.proofs.Common.{[], ◌∷◌, ◌++◌, set, length, length-set, reverse, filter, Option, Some, None, slice_get, get_or}
 use Rattle.std.proofs.Common.{◌==◌, ◌&&◌, nat_lt, nat_le, if◌then◌else◌, refl, sym, ◌∙◌, ap, subst, arith}
 use Rattle.std.proofs.lemmas.Bool.{eq-eqb, ne_eqb}
 use Rattle.std.proofs.lemmas.Bool.Decides.{nat_tests, eqb_tells}
@@ -321,6 +321,25 @@ module _ {site : Site} {kept : Retained} {panel : ℕ} {done : List Done} {taken
       both : {q w : List PointWatch} {t u : ZoneWatch} → q ≡ w → t ≡ u → ◌≡◌ {A = List PointWatch × ZoneWatch} (q, t) (w, u)
       both e f = cc
 
+-- the zone is put back as it was
+pub zone_as_before : {site : Site} {kept : Retained} {panel : ℕ} {done : List Done} {taken : List Answer} (decide : Decide) (points : List PointWatch)
+    (place : ℕ) (zone : ZoneWatch) (marks : PlaceSet) → set decide.zones.items place zone ≡ decide.zones.items
+    → length decide.zones.items ≡ length site.zones → HasGoingOn marks decide.since.0 decide.reset points decide.zones.items
+    → DecidesFor site kept panel done taken (record decide { points = points; zones = with_item decide.zones place zone; going_on = marks })
+    → DecidesFor site kept panel done taken (record decide { points = points; going_on = marks })
+zone_as_before decide points place zone marks items count going noted = record {
+  wired = noted.wired;
+  at = noted.at;
+  point_count = noted.point_count;
+  zone_count = count;
+  points = noted.points;
+  zones = λ place watch zone is. noted.zones place watch zone (ap (λ xs. slice_get xs place) items ∙ is);
+  reset = noted.reset;
+  going_on = going;
+  order = noted.order;
+  own = noted.own;
+}
+
 -- an answer that is no alarm
 pub quiet_noted : {site : Site} {kept : Retained} {panel : ℕ} {done : List Done} {taken : List Answer} {decide : Decide} (stands :
     DecidesFor site kept panel done taken decide) (answer : Answer) → MayTake site panel done taken (answer ∷ []) →
@@ -354,18 +373,7 @@ quiet_noted {site} {kept} {panel} {done} {taken} {decide} stands answer may quie
     (es ∙ sym (ap (λ b. set decide.points answer.point (point_noted answer.heard b floor answer.stamp q)) uncounted))
     (sym (ap (λ b. b && makes_pairs w.zone_watch.rule (not q.manual)) uncounted)) refl refl refl
     in
-    record {
-      wired = noted.wired;
-      at = noted.at;
-      point_count = noted.point_count;
-      zone_count = stands.zone_count;
-      points = noted.points;
-      zones = λ place watch zone is. noted.zones place watch zone (ap (λ xs. slice_get xs place) items ∙ is);
-      reset = noted.reset;
-      going_on = going;
-      order = noted.order;
-      own = noted.own;
-    }
+    zone_as_before decide s q.zone w.zone_watch g items stands.zone_count going noted
 
 pub no_alarm : (heard : Heard) → (heard ≡ Quiet) ⊎ (heard ≡ Silent) → is_alarm heard ≡ false
 no_alarm heard (inl quiet) = ap is_alarm quiet

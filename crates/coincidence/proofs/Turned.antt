@@ -11,7 +11,7 @@ use Rattle.coincidence_rules.specs.InOrder.{AreInOrder}
 use Rattle.coincidence_rules.proofs.Lists.{get_left, get_right}
 use Rattle.coincidence.specs.declared.decide.Decide.{Decide}
 use Rattle.coincidence.specs.Changes.{FindsNext, PutsFindings, TakesAnswers}
-use Rattle.coincidence.specs.Stands.{CanTake, DecidesFor}
+use Rattle.coincidence.specs.Stands.{CanTake, DecidesFor, StandsWith}
 use Rattle.coincidence.specs.Premises.{MayTake}
 
 in_order_front : (front behind : List Answer) → AreInOrder (front ++ behind) → AreInOrder front
@@ -93,17 +93,23 @@ pub puts_one : (decide : Decide) (x : Answer) (finding : Finding) (l m : LaneSta
 puts_one decide x finding l m finds put site kept panel done taken stands may =
     put ∙ ap (λ f. with_put l (f ∷ [])) (finds site kept panel done taken stands may)
 
--- the second list may be taken behind the first
-can_front : (a : Decide) (xs ys : List Answer) → CanTake a (xs ++ ys) → CanTake a xs
-can_front a xs ys can = record {
+-- what may be done with a part by all that it stands for
+pub still_can : {decide : Decide} {One Other : Site → Retained → ℕ → List Done → List Answer → Type 0} → StandsWith decide One
+    → ((site : Site) (kept : Retained) (panel : ℕ) (done : List Done) (taken : List Answer) → One site kept panel done taken
+    → Other site kept panel done taken) → StandsWith decide Other
+still_can can follows = record {
   site = can.site;
   kept = can.kept;
   panel = can.panel;
   done = can.done;
   taken = can.taken;
   stands = can.stands;
-  may = may_front xs ys can.may;
+  may = follows can.site can.kept can.panel can.done can.taken can.may;
 }
+
+-- the second list may be taken behind the first
+can_front : (a : Decide) (xs ys : List Answer) → CanTake a (xs ++ ys) → CanTake a xs
+can_front a xs ys can = still_can can (λ site kept panel done taken. may_front xs ys)
 
 can_behind : (a b : Decide) (xs ys : List Answer) → TakesAnswers a xs b → CanTake a (xs ++ ys) → CanTake b ys
 can_behind a b xs ys takes can = record {

@@ -1,5 +1,5 @@
 -- What is kept of a point, its zone and the zone's partner lies where the code reads it.
-use Rattle.std.proofs.Common.{◌≡◌, ℕ, zero, suc, ◌+◌, ◌<◌, ◌≤◌, Bool, true, false, List, [], ◌∷◌, length, Option, Some, None, slice_get, get_or, if◌then◌else◌, refl, sym, ◌∙◌, ap, subst, arith}
+use Rattle.std.proofs.Common.{◌≡◌, ℕ, zero, suc, ◌+◌, ◌*◌, ◌<◌, ◌≤◌, Bool, true, false, List, [], ◌∷◌, length, Option, Some, None, slice_get, get_or, if◌then◌else◌, refl, sym, ◌∙◌, ap, subst, arith}
 use Rattle.std.proofs.lemmas.Option.{get_or_from_slice_get}
 use Rattle.site_types.specs.declared.site.Site.{Site}
 use Rattle.site_types.specs.declared.point.Point.{Point as PointPlan}
@@ -89,6 +89,13 @@ module _ {site : Site} {kept : Retained} {panel : ℕ} {done : List Done} {taken
 
   pub point_small : (place : ℕ) → IsOwn site panel place → place < length decide.points
   point_small place own = let w = watched place own in get_small decide.points place w.watch w.is_watch
+
+  -- the marks of the points whose alarms go on have room for it
+  pub mark_small : (place : ℕ) → IsOwn site panel place → place < 8 * length decide.going_on.bytes.items
+  mark_small place own =
+      let small = point_small place own in
+      let room = stands.going_on.room in
+      omega (arith, small, room)
 
   -- what is read of a point
   pub point_read : (place : ℕ) → IsOwn site panel place → (r : PointWatch) × (r ≡ get_or decide.points place r)

@@ -1,8 +1,8 @@
-use Rattle.std.proofs.Common.{◌<◌, Some, set, refl, sym, ◌∙◌, ap, subst, arith}
+use Rattle.std.proofs.Common.{◌<◌, Some, set, refl, sym, ◌∙◌, ap, subst}
 use Rattle.coincidence.specs.Places.{HasGoingOn}
 use Rattle.coincidence.proofs.Marked.{noted_going, taken_out}
 use Rattle.coincidence.proofs.PlainZones.{keeps_known, zone_there}
-use Rattle.coincidence.proofs.Watched.{point_small, zone_small, zone_watch_read, fits_next}
+use Rattle.coincidence.proofs.Watched.{mark_small, point_small, zone_small, zone_watch_read, fits_next}
 use Rattle.coincidence.proofs.Observations.{floor_judged}
 use Rattle.coincidence.proofs.TakenAnswer.{others_noted, stands_noted}
 use Rattle.coincidence.proofs.decide.Decide.note_alarm.Goals as goal
@@ -26,9 +26,7 @@ index_mut-watch-requires c =
 pub set-requires : goal.set-requires
 set-requires c =
     let q = c.requires in
-    let small = point_small q.stands c.args.answer.now.point (q.may.own 0 c.args.answer.now refl) in
-    let room = q.stands.going_on.room in
-    omega (arith, small, room)
+    mark_small q.stands c.args.answer.now.point (q.may.own 0 c.args.answer.now refl)
 
 pub returns-clause-taken : goal.returns-clause-taken
 returns-clause-taken c site kept panel done taken stands may judges =

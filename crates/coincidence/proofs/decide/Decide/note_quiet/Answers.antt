@@ -1,7 +1,7 @@
-use Rattle.std.proofs.Common.{false, refl, sym, subst, arith}
+use Rattle.std.proofs.Common.{false, refl, sym, subst}
 use Rattle.coincidence.specs.Places.{HasGoingOn}
 use Rattle.coincidence.proofs.Marked.{taken_out}
-use Rattle.coincidence.proofs.Watched.{point_small, point_read}
+use Rattle.coincidence.proofs.Watched.{mark_small, point_small, point_read}
 use Rattle.coincidence.proofs.TakenAnswer.{others_noted, quiet_noted}
 use Rattle.coincidence.proofs.decide.Decide.note_quiet.Goals as goal
 
@@ -13,9 +13,7 @@ note-requires c =
 pub set-requires : goal.set-requires
 set-requires c =
     let q = c.requires in
-    let small = point_small q.stands c.args.answer.now.point (q.may.own 0 c.args.answer.now refl) in
-    let room = q.stands.going_on.room in
-    omega (arith, small, room)
+    mark_small q.stands c.args.answer.now.point (q.may.own 0 c.args.answer.now refl)
 
 pub returns-clause-taken : goal.returns-clause-taken
 returns-clause-taken c quiet site kept panel done taken stands may =

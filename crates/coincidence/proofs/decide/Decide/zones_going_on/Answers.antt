@@ -1,6 +1,6 @@
 use Rattle.std.proofs.Common.{◌+◌, ◌<◌, length, get_or, sym, ◌∙◌, ap, subst, arith}
 use Rattle.answer_lanes.specs.Points.{answer_at}
-use Rattle.coincidence.proofs.GoingOn.{bits_among, confirms_again, item_observed, point_of}
+use Rattle.coincidence.proofs.GoingOn.{bits_among, confirms_again, told_by_bit}
 use Rattle.coincidence.proofs.Watched.{number_fits, point_small, zone_small}
 use Rattle.coincidence.proofs.decide.Decide.zones_going_on.Goals as goal
 
@@ -8,30 +8,27 @@ pub at-point-requires : goal.at-point-requires
 at-point-requires c =
     let run = c.args.run.now in
     let bit = c.lowest_bit-bit.result in
-    let small = c.requires.tells.within bit c.lowest_bit-bit.ensures.set in
-    let q = item_observed c.args.self.now run bit small c.requires.can in
-    subst (λ n. n < length c.args.self.now.points) (point_of run bit c.requires.within small) (point_small q.stands _ q.may.own)
+    let told = told_by_bit c.args.self.now run c.args.changing bit c.requires.within c.requires.tells c.lowest_bit-bit.ensures.set c.requires.can in
+    subst (λ n. n < length c.args.self.now.points) told.1 (point_small told.0.stands _ told.0.may.own)
 
 pub index-zone-requires : goal.index-zone-requires
 index-zone-requires c =
     let run = c.args.run.now in
     let bit = c.lowest_bit-bit.result in
-    let small = c.requires.tells.within bit c.lowest_bit-bit.ensures.set in
-    let q = item_observed c.args.self.now run bit small c.requires.can in
+    let told = told_by_bit c.args.self.now run c.args.changing bit c.requires.within c.requires.tells c.lowest_bit-bit.ensures.set c.requires.can in
     let point = c.at-point.result.now in
-    let read = c.at-point.ensures ∙ ap (λ n. get_or c.args.self.now.points n point) (sym (point_of run bit c.requires.within small)) in
+    let read = c.at-point.ensures ∙ ap (λ n. get_or c.args.self.now.points n point) (sym told.1) in
     subst (λ n. point.zone < n) (sym c.args.self.now.zones.ok.0)
-    (zone_small q.stands (answer_at run.first (run.taken + bit)).point q.may.own point read)
+    (zone_small told.0.stands (answer_at run.first (run.taken + bit)).point told.0.may.own point read)
 
 pub one_bit-requires : goal.one_bit-requires
 one_bit-requires c =
+    let point = c.at-point.result.now in
     let run = c.args.run.now in
     let bit = c.lowest_bit-bit.result in
-    let small = c.requires.tells.within bit c.lowest_bit-bit.ensures.set in
-    let q = item_observed c.args.self.now run bit small c.requires.can in
-    let point = c.at-point.result.now in
-    let read = c.at-point.ensures ∙ ap (λ n. get_or c.args.self.now.points n point) (sym (point_of run bit c.requires.within small)) in
-    number_fits q.stands (answer_at run.first (run.taken + bit)).point q.may.own point c.index-zone.result.now read c.index-zone.ensures
+    let told = told_by_bit c.args.self.now run c.args.changing bit c.requires.within c.requires.tells c.lowest_bit-bit.ensures.set c.requires.can in
+    let read = c.at-point.ensures ∙ ap (λ n. get_or c.args.self.now.points n point) (sym told.1) in
+    number_fits told.0.stands (answer_at run.first (run.taken + bit)).point told.0.may.own point c.index-zone.result.now read c.index-zone.ensures
 
 pub returns : goal.returns
 returns c k small set_bit =
