@@ -32,7 +32,7 @@ pub(crate) fn without(mask: u8, other: u8) -> u8
     mask & !other
 }
 
-/// So many bits of a mask, from this one on.
+/// The bits of a mask at so many places, from this place on.
 pub(crate) fn bits_within(mask: u8, from: u8, count: u8) -> u8
     ensures { (k : ℕ) → has_bit result k ≡ (nat_lt k count && has_bit mask (from + k)) }
 {

@@ -46,7 +46,7 @@ impl<S: Several> Run<S> {
         }
     }
 
-    // Its first items, at most so many.
+    // The run's first items, at most so many.
     pub(crate) fn front(&self, most: u8) -> Run<S>
         ensures { result ≡ front_of most self.now }
     {

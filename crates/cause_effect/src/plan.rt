@@ -1,6 +1,6 @@
 ghost use Rattle.std.specs.Prelude.{◌≡◌, ◌≢◌, ◌<◌, ◌+◌, [], ℕ, Some, false, slice_get, slice_index_or};
 ghost use Rattle.site_types.specs.declared.site.Site.{Site as SiteOf};
-ghost use Rattle.marker_table.specs.declared.facts.Facts.{Facts as FactsOf};
+ghost use Rattle.marker_table.specs.declared.facts.Facts.{Facts as Masks};
 ghost use Rattle.marker_table.specs.Equations.{equation, values_of};
 ghost use Rattle.marker_table.specs.Table.{HasFacts, value_read};
 ghost use Rattle.cause_effect.specs.Changes.{DependsOnChanged, RoseByNumberOf};
@@ -88,9 +88,9 @@ impl Plan {
 
     // Evaluates the marker at a place of the order, if there is one.
     fn solve_at<L: Ledger>(&self, place: usize, readings: &mut Readings, steps: &mut Steps<L>)
-        ensures facts { (facts : FactsOf) → HasFacts facts readings.old
+        ensures facts { (facts : Masks) → HasFacts facts readings.old
             → HasFacts facts readings.new }
-        ensures value { (site : SiteOf) (facts : FactsOf) (m : ℕ) → IsPlanOf site self.now
+        ensures value { (site : SiteOf) (facts : Masks) (m : ℕ) → IsPlanOf site self.now
             → HasFacts facts readings.old → slice_get self.now.order place ≡ Some m
             → value_read readings.new m ≡ equation site facts (value_read readings.old) m }
         ensures others { (marker other : ℕ) → slice_get self.now.order place ≡ Some marker

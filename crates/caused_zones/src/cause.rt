@@ -11,7 +11,7 @@ pub struct Cause {
 }
 
 impl Cause {
-    /// It never was.
+    /// The cause of a zone that was never caused to be in alarm.
     pub fn none() -> Cause
         ensures { result ≡ no_cause }
     {
@@ -35,7 +35,7 @@ impl Cause {
         }
     }
 
-    /// It is caused.
+    /// The cause stands from now on.
     pub fn given(self) -> Cause
         ensures { result ≡ cause_given self }
     {

@@ -3,7 +3,7 @@ ghost use Rattle.site_types.specs.declared.retained.Retained.{Retained as Retain
 ghost use Rattle.site_types.specs.declared.site.Site.{Site as SiteOf};
 ghost use Rattle.site_types.specs.Done.{Done};
 ghost use Rattle.panel_rules.specs.Moments.{Moment as MomentOf, TickBlock, tick_of};
-ghost use Rattle.blocked_points.specs.declared.done_operation.DoneOperation.{DoneOperation as DoneOf};
+ghost use Rattle.blocked_points.specs.declared.done_operation.DoneOperation.{DoneOperation as DoneOperationOf};
 ghost use Rattle.blocked_points.specs.Operations.{as_done};
 ghost use Rattle.caused_zones.specs.declared.cause.Cause.{Cause as CauseOf};
 ghost use Rattle.caused_zones.specs.Causes.{last_caused};
@@ -34,7 +34,7 @@ impl CausedParts {
 
     /// Nothing was answered.
     pub fn new(alloc: Global, site: &Site) -> Result<CausedParts, NoMemory>
-        ensures { IfOk result (λ parts. (kept : RetainedOf) (operations : List DoneOf)
+        ensures { IfOk result (λ parts. (kept : RetainedOf) (operations : List DoneOperationOf)
             → PartsAfter site.now kept operations 0 [] parts) }
     {
         let marks = vec![in alloc; PointMark::none(); site.points.len()]?;
@@ -87,7 +87,7 @@ impl CausedParts {
         last_of(&self.alarms, zone, now)
     }
 
-    /// The same for alarms by hand.
+    /// The latest tick by now at which a zone was caused to be in alarm by hand, 0 where there is none.
     pub fn last_call(&self, zone: usize, now: u64) -> u64
         ensures { PartsTellCall self.now zone now result }
     {

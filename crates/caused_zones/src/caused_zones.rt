@@ -1,7 +1,7 @@
 ghost use Rattle.std.specs.Prelude.{◌≤◌, [], List, IfOk};
 ghost use Rattle.site_types.specs.declared.retained.Retained.{Retained as RetainedOf};
 ghost use Rattle.site_types.specs.Valid.{IsValid};
-ghost use Rattle.blocked_points.specs.declared.done_operation.DoneOperation.{DoneOperation as DoneOf};
+ghost use Rattle.blocked_points.specs.declared.done_operation.DoneOperation.{DoneOperation as DoneOperationOf};
 ghost use Rattle.blocked_points.specs.Operations.{AreDoneInOrder};
 
 use crate::caused_parts::CausedParts;
@@ -29,7 +29,7 @@ impl CausedZones {
     /// Before the first tick nothing is caused. The operations are all that were ever done, later ones among them.
     pub fn new(alloc: Global, site: &Site) -> Result<CausedZones, NoMemory>
         requires { IsValid site.now }
-        ensures { IfOk result (λ caused. (kept : RetainedOf) (operations : List DoneOf)
+        ensures { IfOk result (λ caused. (kept : RetainedOf) (operations : List DoneOperationOf)
             → AreDoneInOrder operations → StandsFor site.now kept operations [] caused) }
     {
         let parts = CausedParts::new(alloc, site)?;
@@ -59,7 +59,7 @@ impl CausedZones {
         self.parts.last_alarm(zone, self.latest.0)
     }
 
-    /// The same for alarms by hand.
+    /// The latest tick by now at which a zone was caused to be in alarm by hand, 0 where there is none.
     pub fn last_call(&self, zone: usize) -> u64
         ensures { TellsCall self.now zone result }
     {

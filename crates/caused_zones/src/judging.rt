@@ -2,7 +2,7 @@
 
 ghost use Rattle.std.specs.Prelude.{◌≡◌, ◌&&◌, ◌==◌, length, slice_get};
 ghost use Rattle.coincidence_rules.specs.Confirmed.{is_by_call_point};
-ghost use Rattle.coincidence_rules.specs.Places.{is_detector as is_detector_by, is_of as is_of_by, pairs_up, rule_of};
+ghost use Rattle.coincidence_rules.specs.Places.{is_detector as is_detector_by, is_of as is_of_zone, pairs_up, rule_of};
 ghost use Rattle.caused_zones.specs.Causes.{cause_with};
 ghost use Rattle.caused_zones.specs.Judging.{coincides_by, confirms_by, is_called_now, is_confirmed_now};
 ghost use Rattle.caused_zones.specs.Judging.{is_mark_near, is_near_to, mark_at, some_near_to, touches};
@@ -77,7 +77,7 @@ fn judge_point(alarms: &mut [Cause], marked: &Marked, place: usize)
 
 ghost use Rattle.coincidence_rules.specs.Places.{on_partner};
 
-// The same for the partner of a zone.
+// An answer's point may confirm an alarm of its zone's partner.
 fn judge_partner(alarms: &mut [Cause], marked: &Marked, zone: usize, place: usize)
     ensures { AreEachAfter (λ other cause. cause_with (on_partner marked.now.site.now zone
         (λ partner. other == partner) && confirms_by marked.now.site.now marked.now.marks.now
@@ -92,7 +92,7 @@ fn judge_partner(alarms: &mut [Cause], marked: &Marked, zone: usize, place: usiz
     }
 }
 
-// The same for one zone.
+// What a zone's cause is after the answer of one point.
 fn judge_zone(alarms: &mut [Cause], marked: &Marked, zone: usize, place: usize)
     ensures { AreEachAfter (λ other cause. cause_with ((other == zone)
         && confirms_by marked.now.site.now marked.now.marks.now marked.now.tick.0 other place)
@@ -157,10 +157,10 @@ fn has_pair(marked: &Marked, within: u16, place: usize, zone: usize) -> bool
     }
 }
 
-ghost use Rattle.coincidence_rules.specs.Places.{partner_of as partner_by};
+ghost use Rattle.coincidence_rules.specs.Places.{partner_of as partner_of_zone};
 
 fn partner_of(site: &Site, zone: usize) -> Option<u16>
-    ensures { result ≡ partner_by (slice_get site.now.zones zone) }
+    ensures { result ≡ partner_of_zone (slice_get site.now.zones zone) }
 {
     match site.zones.get(zone) {
         None => None,
@@ -213,7 +213,7 @@ fn counted_lately(marks: &[PointMark], now: Tick, within: u16, place: usize) -> 
 }
 
 fn is_of(site: &Site, zone: usize, place: usize) -> bool
-    ensures { result ≡ is_of_by site.now zone place }
+    ensures { result ≡ is_of_zone site.now zone place }
 {
     match site.points.get(place) {
         None => false,

@@ -59,7 +59,7 @@ impl Decide {
         }
     }
 
-    // The same, read from what is kept.
+    // What is known of the zone of a point, if each alarm of it that counts confirms the zone by itself.
     pub(crate) fn plain_zone(&self, answer: &Answer, point: &PointWatch) -> Option<PlainZone>
         requires may { CanObserve self.now answer.now }
         requires read { point.now ≡ slice_index_or self.now.points answer.now.point point.now }
@@ -126,7 +126,7 @@ impl Decide {
         self.note_alarm(answer, judgement)
     }
 
-    // Whether it leaves what is kept of its point as it is.
+    // Whether an alarm leaves what is kept of its point as it is.
     #[inline(always)]
     fn goes_on(&self, answer: &Answer, judgement: &Judgement) -> bool
         requires { CanTake self.now (answer.now ∷ []) }

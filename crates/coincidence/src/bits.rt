@@ -21,7 +21,7 @@ pub fn two_bits(number: u8, on: bool, other: u8, also: bool) -> u32
     with_bit_32(with_bit_32(0, other - 1, also), number - 1, on)
 }
 
-/// So many first bits of a byte.
+/// A byte of which so many bits are set, the lowest ones.
 pub fn first_bits(count: u8) -> u8
     requires { count ≤ 8 }
     ensures { (k : ℕ) → has_bit result k ≡ nat_lt k count }

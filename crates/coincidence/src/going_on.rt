@@ -85,7 +85,7 @@ impl Decide {
         self.since = Tick(self.since.0.max(answer.stamp.0));
     }
 
-    // Whether they do.
+    // Whether the next alarms of the answer's point, in a plain zone, would change nothing and count.
     fn is_steady(&self, answer: &Answer, zone: &PlainZone) -> bool
         requires can { CanTake self.now (answer.now ∷ []) }
         requires zone { IsOfPoint answer.now self.now zone.now }

@@ -52,7 +52,7 @@ pub fn by_system(
 }
 
 impl Played {
-    // One more tick: its order, how Keep's turn ended and what was told.
+    // Keeps one tick more: its order, how Keep's turn ended and what was told.
     fn keep(&mut self, block: &Block, order: &Order, store: Store, told: Told) -> Result<()> {
         let failed = matches!(store, Store::Failed);
         push_tick(&mut self.moments, &block.events, order, failed)?;

@@ -1,6 +1,6 @@
 -- Replies, each with its status.
 use Rattle.std.specs.Prelude.{ℕ, nat_lt, if◌then◌else◌}
-use Rattle.desk_answers.specs.declared.object.Object.{Object as Json}
+use Rattle.desk_answers.specs.declared.object.Object.{Object as JsonObject}
 use Rattle.desk_answers.specs.declared.object.Object.TheVariants.{Denied, Empty, OtherVisit, Stopped}
 use Rattle.desk_bodies.specs.declared.refusal.BodyRefusal.{BodyRefusal}
 use Rattle.desk_bodies.specs.declared.refusal.BodyRefusal.TheVariants as body
@@ -17,7 +17,7 @@ status_of (Object status object) = status
 status_of (Table bytes) = status.Done
 
 -- all is done, and this is told
-abbrev pub done : Json → Reply
+abbrev pub done : JsonObject → Reply
 done object = Object status.Done object
 
 -- a refusal that tells nothing more

@@ -2,7 +2,7 @@
 use Rattle.std.proofs.Common.{◌≡◌, ◌∙◌, ◌+◌, ◌<◌, ◌≤◌, ◌++◌, ◌==◌, not, ℕ, Bool, true, false, List, [], ◌∷◌, length, take, drop, take-append-drop}
 use Rattle.std.proofs.Common.{Option, Some, None, refl, sym, ap, subst, arith, append_assoc, append-nil, length-append}
 use Rattle.std.proofs.lemmas.Bool.{ne_eqb}
-use Rattle.site_types.specs.declared.event.Event.{Event as EventOf}
+use Rattle.site_types.specs.declared.event.Event.{Event as SiteEvent}
 use Rattle.site_types.specs.declared.site.Site.{Site}
 use Rattle.tick_units.specs.declared.seat.Seat.{Seat as SeatOf}
 use Rattle.tick_units.specs.declared.tick.Tick.{Tick as TickOf}
@@ -246,7 +246,7 @@ module _ (site : Site) (all left : List ℕ) (reader new_reader : LineReader) (n
   goes_here e = goes fed.step told e
 
   -- an event or an order more was read
-  pub goes_event : (event : EventOf) → LineStep (Event event) ≡ fed.step
+  pub goes_event : (event : SiteEvent) → LineStep (Event event) ≡ fed.step
       → (read : IsRead site all (drop fed.used left) new_reader (number + 1)) × (read.tail ≡ h.tail ++ line_view (Event event) ∷ [])
   unfolding goes_line
   goes_event event is = (goes_line (Event event) refl refl (subst Told (sym is) told), refl)

@@ -1,4 +1,4 @@
-//! The same counts by the plain program of the rules.
+//! The counts of a drill, by the plain program of the rules.
 
 ghost use Rattle.tick_units.specs.Orders.{IsPanelCount};
 

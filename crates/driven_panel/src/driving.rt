@@ -105,7 +105,7 @@ fn turn_all(own: &mut Installation, panels: u8, order: &Order) -> Store
     turn_counted::<Brand>(own, panels, order, Blank::new(1))
 }
 
-// The same, with a counter of steps that is let go.
+// Each seat has its turn, in this order; the steps of Drive are counted and let go.
 fn turn_counted<L: Ledger>(own: &mut Installation, panels: u8, order: &Order, blank: Blank) -> Store
     requires begun { HasBegun panels own.old }
     requires ordered { IsOrder panels order.now }

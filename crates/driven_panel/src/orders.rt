@@ -34,7 +34,7 @@ fn reversed_order(alloc: Global, panels: u8) -> Result<Order>
     }
 }
 
-/// The same order, if it is one of so many panels.
+/// A copy of an order, if it is one of so many panels.
 pub fn tested_order(alloc: Global, panels: u8, order: &Order) -> Result<Order>
     requires { IsPanelCount panels }
     ensures { IfOk result (IsOrder panels) }

@@ -12,7 +12,7 @@ pub struct LeastSignals {
 }
 
 impl LeastSignals {
-    /// Whether there is none of any kind.
+    /// Whether a zone has no signal of any of these kinds.
     pub(crate) fn is_none(&self) -> bool
         ensures { IsTrue result ↔ ((self.now.shown ≡ None) × (self.now.out ≡ None)
             × (self.now.by_hand ≡ None)) }

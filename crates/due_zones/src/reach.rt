@@ -36,14 +36,14 @@ impl Reach {
         here || there
     }
 
-    // Whether it is due on the zone's own panel.
+    // Whether a signal that counts from a tick on is due on the zone's own panel.
     fn is_home(&self, settled: u64) -> bool
         ensures { IsTrue result ↔ IsHome self.now settled }
     {
         self.own && lies_before(settled, 20 * self.format as u64, self.tick)
     }
 
-    // Whether it is due where a word comes round the ring.
+    // Whether a signal that counts from a tick on is due where a word comes round the ring.
     fn came_round(&self, settled: u64) -> bool
         ensures { IsTrue result ↔ CameRound self.now.format settled self.now.window }
     {

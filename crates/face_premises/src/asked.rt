@@ -64,7 +64,7 @@ fn mark_done(asked: &mut [Asked], words: &str, now: u64) {
     }
 }
 
-/// Those that were done, by their ticks.
+/// The operations that were done, by their ticks.
 pub(crate) fn all_done(alloc: Global, asked: &[Asked], last: u64) -> Result<Vec<Done>> {
     let mut done = Vec::new(alloc);
     for tick in 1..=last {

@@ -31,7 +31,7 @@ pub(crate) fn track<F: Fn(&Event) -> Option<bool>>(
     Ok(track)
 }
 
-/// Whether it held at the end of a tick.
+/// Whether what a track tells held at the end of a tick.
 pub(crate) fn held_at(track: &[bool], tick: u64) -> bool {
     match track.get(tick as usize) {
         Some(holds) => *holds,

@@ -93,7 +93,7 @@ fn note_again(run: &Run, zone: &Zone, settled: u64, now: u64, tally: &mut Tally)
     }
 }
 
-// One detector of a zone of type A that signals by itself.
+// Notes of each detector that signals by itself whether its zone, of type A, is shown.
 fn note_single(
     run: &Run,
     signals: &[Vec<bool>],

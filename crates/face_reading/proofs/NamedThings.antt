@@ -13,7 +13,7 @@ use Rattle.site_types.specs.declared.zone.Zone.{Zone}
 use Rattle.site_types.specs.Valid.{IsValid}
 use Rattle.site_types.proofs.Finding.{thing_named_iff}
 use Rattle.site_types.proofs.Spelling.{number_of-decimal}
-use Rattle.site_types.proofs.ValidSites.{output_at as output_form, point_at as point_form, zone_at as zone_form}
+use Rattle.site_types.proofs.ValidSites.{output_at as output_form, point_at as point_is, zone_at as zone_form}
 use Rattle.face_text.specs.declared.group.Group.{Group}
 use Rattle.face_text.specs.declared.group.Group.TheVariants.{Zones, Firsts, Missing, Broken, Shorted, Supplies, Silent, Links, Unconfirmed, Outputs, Confirmed, PointsOff, ZonesOff, OutputsOff, Tests}
 use Rattle.face_text.specs.Slots.{last_of, name_in, number_if, output_name, point_name, supply_name, zone_name}
@@ -86,7 +86,7 @@ point_back site valid panel line number name is =
     in
     let named : point_named site name ≡ Some point = ap (point_at site) has ∙ it.is in
     record {
-      plain = ap (list_all is_plain) (sym it.named) ∙ name_plain point.name.bytes (point_form site valid it.place point it.is).name;
+      plain = ap (list_all is_plain) (sym it.named) ∙ name_plain point.name.bytes (point_is site valid it.place point it.is).name;
       back = λ group. ap (option_map (λ (p : Point). numbered (group p.line) p.address)) named ∙ ap (λ l. Some (numbered (group l) point.address))
           at_line ∙ ap (λ n. Some (numbered (group line) n)) at_number;
     }

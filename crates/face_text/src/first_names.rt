@@ -7,7 +7,7 @@ ghost use Rattle.face_text.specs.NextNames.{AreNamedBehind};
 use crate::group::Group;
 use site_types::{Output, Point, Site, Zone};
 
-/// So many things of its list needn't be looked at for the names of a group.
+/// How many things of a group's list, from its beginning, needn't be looked at for the names of a panel's group.
 pub fn first_name(site: &Site, panel: u8, group: Group) -> usize
     ensures { AreNamedBehind result site.now panel group 1 }
 {

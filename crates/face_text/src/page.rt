@@ -1,11 +1,11 @@
 ghost use Rattle.std.specs.Prelude.{◌≡◌};
-ghost use Rattle.face_text.specs.Slots.{page as the_page};
+ghost use Rattle.face_text.specs.Slots.{page as page_of_panel};
 
 use crate::group::Group;
 
 /// The groups in the order of the page.
 pub fn page() -> [Group; 35]
-    ensures { result ≡ the_page }
+    ensures { result ≡ page_of_panel }
 {
     [
         Group::Zones(1),

@@ -1,7 +1,7 @@
 //! The cables of a site's loops, by the places of the loops.
 
 ghost use Rattle.std.specs.Prelude.{◌≡◌, ◌==◌, ◌&&◌, [], ◌∷◌, List, IfOk, position};
-ghost use Rattle.site_types.specs.declared.event.Event.TheVariants.{Cable as CableTold};
+ghost use Rattle.site_types.specs.declared.event.Event.TheVariants.{Cable as CableEvent};
 ghost use Rattle.isolators.specs.Stands.{StandsFor as LineStandsFor};
 ghost use Rattle.panel_rules.specs.Moments.{Moment as MomentOf, Happened};
 ghost use Rattle.panel_rules.specs.States.{piece_of};
@@ -42,7 +42,7 @@ pub fn report(
     state: PieceState,
 )
     ensures { (before : List MomentOf) → LinesStand plans.now before lines.old
-        → LinesStand plans.now (Happened (CableTold panel line piece state) ∷ before) lines.new }
+        → LinesStand plans.now (Happened (CableEvent panel line piece state) ∷ before) lines.new }
 {
     for place in 0..lines.len() {
         match plans.get(place) {
@@ -55,7 +55,7 @@ pub fn report(
     }
 }
 
-// The same for one of the loops.
+// One loop takes the report of a piece of cable, if it's the loop that is named.
 fn report_to(
     cable: &mut LoopLine,
     plan: &LoopPlan,
@@ -66,7 +66,7 @@ fn report_to(
 )
     ensures { (before : List MomentOf)
         → LineStandsFor plan.now (cable_after plan.now before) cable.old → LineStandsFor plan.now
-        (cable_after plan.now (Happened (CableTold panel line piece state) ∷ before)) cable.new }
+        (cable_after plan.now (Happened (CableEvent panel line piece state) ∷ before)) cable.new }
 {
     if plan.panel == panel && plan.line == line {
         cable.set_piece(piece, state);

@@ -6,7 +6,7 @@ pub fn told_entries()
     ensures { ToldEntries }
 {}
 
-/// So do those of the ring.
+/// The turns of a run count each entry into the fire alarm condition once, told by the ring's words.
 pub fn held_entries()
     ensures { HeldEntries }
 {}

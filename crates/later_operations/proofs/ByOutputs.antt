@@ -8,7 +8,7 @@ use Rattle.site_types.specs.declared.site.Site.{Site}
 use Rattle.site_types.specs.Done.{Done}
 use Rattle.site_types.specs.Events.{is_confirming}
 use Rattle.site_types.specs.Profile.{routing_of}
-use Rattle.routing_outputs.specs.Confirmations.{Call, Turned as TurnMade}
+use Rattle.routing_outputs.specs.Confirmations.{Call, Turned as RoutingTurn}
 use Rattle.panel_rules.specs.Moments.{Moment, Began, Happened, Turned, Kept, tick_of}
 use Rattle.panel_rules.specs.Markers.{Facts}
 use Rattle.panel_rules.specs.Outputs.{on_output, outputs_where, panel_of_output, goes_on, is_on, on_run}
@@ -57,10 +57,10 @@ module _ (Q : List Moment → Type 0) (tail : (moment : Moment) (before : List M
   routing_by_outputs panel (Happened event ∷ before) q =
       ap (and_confirmed site panel event) (routing_by_outputs panel before (then_earlier Q tail before q))
   routing_by_outputs panel (Turned other Drive ∷ before) q =
-      ap (λ (calls : List Call). if other == panel then TurnMade (tick_of before)
+      ap (λ (calls : List Call). if other == panel then RoutingTurn (tick_of before)
       (outputs_where site panel (λ output. is_on site facts kept more output (Turned panel Drive ∷ before))) ∷ calls else calls)
       (routing_by_outputs panel before (then_earlier Q tail before q))
-      ∙ ap (λ (test : ℕ → Bool). if other == panel then TurnMade (tick_of before) (outputs_where site panel test)
+      ∙ ap (λ (test : ℕ → Bool). if other == panel then RoutingTurn (tick_of before) (outputs_where site panel test)
       ∷ routing_calls site others kept less panel before else routing_calls site others kept less panel before)
       (fun_ext (λ output. on_by_outputs output (Turned panel Drive ∷ before) q))
   routing_by_outputs panel (Turned other task ∷ before) q = routing_by_outputs panel before (then_earlier Q tail before q)

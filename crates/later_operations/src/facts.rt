@@ -5,12 +5,12 @@ pub fn facts_stay()
     ensures { FactsStay }
 {}
 
-/// It leaves the facts of the latest Effect turn.
+/// What is done in a tick or later changes none of the facts of the latest Effect turn up to that tick.
 pub fn latest_facts_stay()
     ensures { LatestFactsStay }
 {}
 
-/// It leaves the zones that were released for the latest Effect turn.
+/// What is done in a tick or later leaves the zones that were released for the latest Effect turn up to that tick.
 pub fn released_stays()
     ensures { ReleasedStays }
 {}

@@ -5,7 +5,7 @@ pub fn faults_stay()
     ensures { FaultsStay }
 {}
 
-/// It changes nothing of what stood besides missing points.
+/// What is done in a tick or later changes nothing of what stood up to that tick besides missing points.
 pub fn outside_stays()
     ensures { OutsideStays }
 {}

@@ -31,7 +31,7 @@ impl Model for PointStates {
 }
 
 impl PointStates {
-    /// So many points, all quiet.
+    /// The states of so many points, all quiet.
     pub fn new(alloc: Global, count: usize) -> Result<PointStates, NoMemory>
         ensures { IfOk result (λ states. states ≡ replicate count Quiet) }
     {

@@ -46,7 +46,7 @@ impl Input {
         }
     }
 
-    // Its bit in that word.
+    // The input's bit in its word of a mask.
     pub(crate) fn bit(self) -> u8
         ensures { result ≡ input_bit self }
     {

@@ -14,7 +14,7 @@ pub(crate) struct Mask {
 }
 
 impl Mask {
-    // One input alone.
+    // The mask of one input alone.
     pub(crate) fn of(input: Input) -> Mask
         ensures { AddsInput input (no_mask input) result }
     {

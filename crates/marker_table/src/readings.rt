@@ -1,5 +1,5 @@
 ghost use Rattle.std.specs.Prelude.{◌≡◌, ◌≢◌, ℕ};
-ghost use Rattle.marker_table.specs.declared.facts.Facts.{Facts as FactsOf};
+ghost use Rattle.marker_table.specs.declared.facts.Facts.{Facts as Masks};
 ghost use Rattle.marker_table.specs.Equations.{values_of};
 ghost use Rattle.marker_table.specs.Table.{HasFacts, HasValues, value_read};
 
@@ -50,7 +50,7 @@ impl Readings {
 
     /// Makes the marker at a place true or false.
     pub fn put(&mut self, marker: u8, value: bool)
-        ensures facts { (facts : FactsOf) → HasFacts facts self.old → HasFacts facts self.new }
+        ensures facts { (facts : Masks) → HasFacts facts self.old → HasFacts facts self.new }
         ensures this { value_read self.new marker ≡ value }
         ensures others { (other : ℕ) → other ≢ marker
             → value_read self.new other ≡ value_read self.old other }

@@ -32,7 +32,7 @@ impl<L: Ledger> Steps<L> {
         Steps { book, share }
     }
 
-    // One evaluation more.
+    // Counts one evaluation more.
     pub(crate) fn raise(&mut self)
         ensures { self.new ≡ self.old + 1 }
     {

@@ -2,7 +2,7 @@ ghost use Rattle.std.specs.Prelude.{◌≡◌, ◌+◌, Bool, IfOk, ℕ};
 ghost use Rattle.site_types.specs.Valid.{IsValid};
 ghost use Rattle.site_types.specs.declared.site.Site.{Site as SiteOf};
 ghost use Rattle.marker_table.specs.Equations.{equation, values_of};
-ghost use Rattle.marker_table.specs.declared.facts.Facts.{Facts as FactsOf};
+ghost use Rattle.marker_table.specs.declared.facts.Facts.{Facts as Masks};
 ghost use Rattle.marker_table.specs.Table.{HasFacts, HasValues, IsTableOf};
 
 use crate::facts::Facts;
@@ -52,14 +52,14 @@ impl MarkerTable {
         self.evaluate_read(marker, &Readings::of(facts, values), steps)
     }
 
-    /// The same over readings of facts and of the values of the markers.
+    /// The marker's equation over readings, which hold masks of facts and of the markers' values.
     pub fn evaluate_read<L: Ledger>(
         &self,
         marker: u16,
         readings: &Readings,
         steps: &mut Steps<L>,
     ) -> bool
-        ensures equation { (site : SiteOf) (facts : FactsOf) (values : ℕ → Bool)
+        ensures equation { (site : SiteOf) (facts : Masks) (values : ℕ → Bool)
             → IsTableOf site self.now → HasFacts facts readings.now
             → HasValues values readings.now → result ≡ equation site facts values marker }
         ensures step { steps.new ≡ steps.old + 1 }

@@ -27,7 +27,7 @@ use Rattle.record_lines.specs.declared.step.Step.TheVariants.{Need, Line as Line
 use Rattle.site_run.specs.Records.{Block}
 use Rattle.site_run.proofs.Progresses.{events_length, few_asked}
 use Rattle.site_run.proofs.Stood.{events_more}
-use Rattle.site_types.specs.declared.event.Event.{Event as EventOf}
+use Rattle.site_types.specs.declared.event.Event.{Event as SiteEvent}
 use Rattle.site_types.specs.declared.retained.Retained.{Retained}
 use Rattle.site_types.specs.declared.site.Site.{Site}
 use Rattle.node_desk.specs.Lines.{MayTellStep, MayTellWith, TellsStep, ToldLines, with_lines}
@@ -63,7 +63,7 @@ nothing_told site panel kept history rest old reader stands reads told =
 -- ---- one line more
 
 -- what one more line tells is one event more
-with_event : (site : Site) (lines : List Line) (event : EventOf) (history : List NodeMoment)
+with_event : (site : Site) (lines : List Line) (event : SiteEvent) (history : List NodeMoment)
     → Befell (Happened event) ∷ with_lines site lines history ≡ with_lines site (lines ++ Event event ∷ []) history
 with_event site lines event history =
     ap (λ ms. and_befell ms history)
@@ -92,7 +92,7 @@ module _ (site : Site) (panel : ℕ) (kept : Retained) (history : List NodeMomen
       may.accepted
 
   -- so an event is the panel's own
-  own_event : (event : EventOf) → LineStep (Event event) ≡ fed.step → is_event_of site panel event ≡ true
+  own_event : (event : SiteEvent) → LineStep (Event event) ≡ fed.step → is_event_of site panel event ≡ true
   own_event event e = by (is_event_of site panel event) refl
     where
       by : (b : Bool) → is_event_of site panel event ≡ b → b ≡ true

@@ -2,7 +2,7 @@
 use Rattle.std.proofs.Common.{◌≡◌, ◌∙◌, ◌+◌, ◌<◌, ◌++◌, ◌==◌, ℕ, Bool, true, false, List, [], ◌∷◌, length, take, drop, take-append-drop, if◌then◌else◌}
 use Rattle.std.proofs.Common.{Option, Some, None, refl, sym, ap, subst, arith, append_assoc, append-nil}
 use Rattle.std.proofs.lemmas.Bool.{eqb-true}
-use Rattle.site_types.specs.declared.event.Event.{Event as EventOf}
+use Rattle.site_types.specs.declared.event.Event.{Event as SiteEvent}
 use Rattle.site_types.specs.declared.event.Event.TheVariants.{Point, Cable, Supply, Link, Confirmed, Op}
 use Rattle.site_types.specs.declared.site.Site.{Site}
 use Rattle.record_lines.specs.Events.{event_view}
@@ -35,7 +35,7 @@ AllOwn site panel (Order order ∷ lines) = ⊥
 AllOwn site panel (End ∷ lines) = ⊥
 
 -- whose an event is stays as it is viewed
-viewed : (site : Site) (panel : ℕ) (event : EventOf) → is_event_of site panel (event_view event) ≡ is_event_of site panel event
+viewed : (site : Site) (panel : ℕ) (event : SiteEvent) → is_event_of site panel (event_view event) ≡ is_event_of site panel event
 viewed site panel (Point point state) = refl
 viewed site panel (Cable other line piece state) = refl
 viewed site panel (Supply other kind bad) = refl
@@ -43,7 +43,7 @@ viewed site panel (Link link up) = refl
 viewed site panel (Confirmed output) = refl
 viewed site panel (Op other code operation) = refl
 
-own_more : (site : Site) (panel : ℕ) (lines : List Line) (event : EventOf) → AllOwn site panel lines → is_event_of site panel event ≡ true
+own_more : (site : Site) (panel : ℕ) (lines : List Line) (event : SiteEvent) → AllOwn site panel lines → is_event_of site panel event ≡ true
     → AllOwn site panel (lines ++ Event event ∷ [])
 own_more site panel [] event all own = (own, tt)
 own_more site panel (Event other ∷ lines) event all own = (all.0, own_more site panel lines event all.1 own)
@@ -189,7 +189,7 @@ module _ (site : Site) (panel : ℕ) (all left : List ℕ) (reader new_reader : 
   own_stops refusal e = own_stops_at fed.step refusal (told_so site all left reader new_reader number fed h.read some feeds) e
 
   -- the line is an event of the panel, and the next may be read
-  pub own_goes_event : (event : EventOf) → LineStep (Event event) ≡ fed.step → is_event_of site panel event ≡ true
+  pub own_goes_event : (event : SiteEvent) → LineStep (Event event) ≡ fed.step → is_event_of site panel event ≡ true
       → (next : IsOwnRead site panel all (drop fed.used left) new_reader (number + 1))
       × (next.read.tail ≡ h.read.tail ++ Event (event_view event) ∷ [])
   own_goes_event event is own =

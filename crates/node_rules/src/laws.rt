@@ -20,7 +20,7 @@ pub fn frames_are_shown()
     ensures { FramesAreShown }
 {}
 
-/// They stay shown while no frame comes.
+/// The zones of another panel stay shown while no frame comes.
 pub fn zones_stay_shown()
     ensures { ZonesStayShown }
 {}

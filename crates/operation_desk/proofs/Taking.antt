@@ -5,7 +5,7 @@ use Rattle.std.specs.Prelude.{filter, option_map}
 use Rattle.std.proofs.lemmas.List.Filters.{length-filter_both}
 use Rattle.face_text.specs.declared.op_answer.OpAnswer.{OpAnswer}
 use Rattle.face_text.specs.declared.reply.Reply.{Reply}
-use Rattle.face_text.specs.declared.reply.Reply.TheVariants.{Done as SaysDone, Denied, Waiting, Already, Store}
+use Rattle.face_text.specs.declared.reply.Reply.TheVariants.{Done as DoneReply, Denied, Waiting, Already, Store}
 use Rattle.site_types.specs.declared.retained.Retained.{Retained}
 use Rattle.site_types.specs.declared.site.Site.{Site}
 use Rattle.site_types.specs.Done.{Done}
@@ -40,7 +40,7 @@ abbrev pub given : ℕ → Request → Reply → Answered
 given tick request reply = record { request = request_from request; tick = tick; reply = reply_from reply }
 
 pub told_given : (tick : ℕ) (request : Request) (reply : Reply) → told_answer (given tick request reply) ≡ Some (numbered_reply request reply)
-told_given tick request SaysDone = refl
+told_given tick request DoneReply = refl
 told_given tick request (Denied needs has) = refl
 told_given tick request Waiting = refl
 told_given tick request Already = refl
@@ -50,7 +50,7 @@ told_given tick request Store = refl
 done_grows : (tick : ℕ) (request : Request) (reply : Reply) (done : List DoneOperation) (older so_far : List Done) → request.tick.0 ≡ tick
     → so_far ≡ with_done tick done older
     → done_where_told (request_from request) (reply_from reply) so_far ≡ with_done tick (done_with request reply done) older
-done_grows tick request SaysDone done older so_far now is =
+done_grows tick request DoneReply done older so_far now is =
     ap (λ t. (let d : Done = record { tick = t; panel = request.panel; operation = request.operation } in d) ∷ so_far) now
     ∙ ap (λ ds. (let d : Done = record { tick = tick; panel = request.panel; operation = request.operation } in d) ∷ ds) is
     ∙ sym (done_more tick done (record { panel = request.panel; operation = request.operation }) older)
@@ -60,7 +60,7 @@ done_grows tick request Already done older so_far now is = is
 done_grows tick request Store done older so_far now is = is
 
 done_length : (request : Request) (reply : Reply) (done : List DoneOperation) → length (done_with request reply done) ≤ length done + 1
-done_length request SaysDone done =
+done_length request DoneReply done =
     let split = length-append done ((let d : DoneOperation = record { panel = request.panel; operation = request.operation } in d) ∷ []) in
     omega (arith, split)
 done_length request (Denied needs has) done = omega arith

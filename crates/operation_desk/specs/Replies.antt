@@ -3,7 +3,7 @@ use Rattle.std.specs.Prelude.{◌≡◌, ◌<◌, ◌||◌, ◌++◌, ℕ, Bool,
 use Rattle.std.specs.List.{AllByRecursion, list_any}
 use Rattle.face_text.specs.declared.op_answer.OpAnswer.{OpAnswer}
 use Rattle.face_text.specs.declared.reply.Reply.{Reply}
-use Rattle.face_text.specs.declared.reply.Reply.TheVariants.{Done as SaysDone, Store as NotStored}
+use Rattle.face_text.specs.declared.reply.Reply.TheVariants.{Done as DoneReply, Store as StoreReply}
 use Rattle.face_text.specs.Faces.{same_truth}
 use Rattle.site_types.specs.declared.retained.Retained.{Retained}
 use Rattle.site_types.specs.declared.site.Site.{Site}
@@ -54,9 +54,9 @@ numbered_reply request reply = record { number = request.number; reply = reply }
 
 -- what was done, with an operation whose answer says so
 abbrev pub done_with : Request → Reply → List DoneOperation → List DoneOperation
-done_with request SaysDone done = done ++ record { panel = request.panel; operation = request.operation } ∷ []
+done_with request DoneReply done = done ++ record { panel = request.panel; operation = request.operation } ∷ []
 done_with request _ done = done
 
 -- the answer of a turn of Keep
 abbrev pub kept_reply : Bool → Reply
-kept_reply failed = if failed then NotStored else SaysDone
+kept_reply failed = if failed then StoreReply else DoneReply

@@ -4,8 +4,8 @@ use Rattle.face_text.specs.declared.reply.Reply.{Reply}
 use Rattle.face_text.specs.declared.reply.Reply.TheVariants.{Done, Denied, Waiting, Already, Store}
 use Rattle.site_types.specs.Done.{Done as DoneOf}
 use Rattle.site_types.specs.Limits.{most_operations}
-use Rattle.panel_rules.specs.Operations.{Request as RequestOf, Reply as ReplyOf, Denied as DeniedTo}
-use Rattle.panel_rules.specs.Operations.{Waiting as Waits, Already as StandsSo, Store as NotStored, WasDone}
+use Rattle.panel_rules.specs.Operations.{Request as RequestOf, Reply as ReplyOf, Denied as DeniedOf}
+use Rattle.panel_rules.specs.Operations.{Waiting as WaitingOf, Already as AlreadyOf, Store as StoreOf, WasDone}
 use Rattle.operation_desk.specs.declared.done_operation.DoneOperation.{DoneOperation}
 use Rattle.operation_desk.specs.declared.request.Request.{Request}
 
@@ -25,10 +25,10 @@ requests_from requests = map request_from requests
 -- an answer that isn't busy
 abbrev pub reply_from : Reply → ReplyOf
 reply_from Done = WasDone
-reply_from (Denied needs has) = DeniedTo needs has
-reply_from Waiting = Waits
-reply_from Already = StandsSo
-reply_from Store = NotStored
+reply_from (Denied needs has) = DeniedOf needs has
+reply_from Waiting = WaitingOf
+reply_from Already = AlreadyOf
+reply_from Store = StoreOf
 
 abbrev pub done_from : ℕ → DoneOperation → DoneOf
 done_from tick d = record { tick = tick; panel = d.panel; operation = d.operation }

@@ -21,7 +21,7 @@ use Rattle.site_types.proofs.Done.{lt_false, lt_true}
 use Rattle.routing_outputs.specs.declared.routing_state.RoutingState.TheVariants.{Idle, Waiting}
 use Rattle.routing_outputs.specs.declared.routing_state.RoutingState.TheVariants.{Confirmed as IsConfirmed}
 use Rattle.routing_outputs.specs.declared.routing_state.RoutingState.TheVariants.{Unconfirmed}
-use Rattle.routing_outputs.specs.Confirmations.{Call, Turned as TurnMade, Confirmed, is_confirming_output, is_watched}
+use Rattle.routing_outputs.specs.Confirmations.{Call, Turned as RoutingTurn, Confirmed, is_confirming_output, is_watched}
 use Rattle.routing_outputs.specs.Confirmations.{is_on as is_on_in, with_confirmation, run_of, has_confirmation}
 use Rattle.routing_outputs.specs.Confirmations.{ticks_of, spans, state_in, is_confirmed}
 use Rattle.routing_outputs.specs.Confirmations.{is_unconfirmed as is_unconfirmed_state}
@@ -52,10 +52,10 @@ none_later tick [] by = refl
 none_later tick (t ∷ ticks) by = let one = lt_false tick t by.0 in let rest = none_later tick ticks by.1 in rw (one, rest) refl
 
 agrees_on : (number tick mask : ℕ) (calls : List Call) (run confirmed : List ℕ) → Agrees number calls run confirmed → is_on_in number mask ≡ true
-    → AllByRecursion (λ t. t ≤ tick) confirmed → Agrees number (TurnMade tick mask ∷ calls) (tick ∷ run) confirmed
+    → AllByRecursion (λ t. t ≤ tick) confirmed → Agrees number (RoutingTurn tick mask ∷ calls) (tick ∷ run) confirmed
 agrees_on number tick mask calls run confirmed h on by =
-    let more : run_of number (TurnMade tick mask ∷ calls) ≡ TurnMade tick mask ∷ run_of number calls =
-    ap (λ b. if b then TurnMade tick mask ∷ run_of number calls else []) on in
+    let more : run_of number (RoutingTurn tick mask ∷ calls) ≡ RoutingTurn tick mask ∷ run_of number calls =
+    ap (λ b. if b then RoutingTurn tick mask ∷ run_of number calls else []) on in
     record {
       ticks = ap ticks_of more ∙ ap (λ (ts : List ℕ). tick ∷ ts) h.ticks;
       is_confirmed =
@@ -63,18 +63,18 @@ agrees_on number tick mask calls run confirmed h on by =
     }
 
 agrees_off : (number tick mask : ℕ) (calls : List Call) (confirmed : List ℕ) → is_on_in number mask ≡ false
-    → Agrees number (TurnMade tick mask ∷ calls) [] confirmed
+    → Agrees number (RoutingTurn tick mask ∷ calls) [] confirmed
 agrees_off number tick mask calls confirmed off =
-    let none : run_of number (TurnMade tick mask ∷ calls) ≡ [] = ap (λ b. if b then TurnMade tick mask ∷ run_of number calls else []) off in
+    let none : run_of number (RoutingTurn tick mask ∷ calls) ≡ [] = ap (λ b. if b then RoutingTurn tick mask ∷ run_of number calls else []) off in
     record { ticks = ap ticks_of none; is_confirmed = ap (has_confirmation number) none }
 
 -- a run has a turn
 has_turn : (number : ℕ) (calls : List Call) → ticks_of (run_of number calls) ≡ [] → run_of number calls ≡ []
 has_turn number [] none = refl
-has_turn number (TurnMade tick mask ∷ calls) none = go (is_on_in number mask) none
+has_turn number (RoutingTurn tick mask ∷ calls) none = go (is_on_in number mask) none
   where
-    go : (b : Bool) → ticks_of (if b then TurnMade tick mask ∷ run_of number calls else []) ≡ []
-        → (if b then TurnMade tick mask ∷ run_of number calls else []) ≡ []
+    go : (b : Bool) → ticks_of (if b then RoutingTurn tick mask ∷ run_of number calls else []) ≡ []
+        → (if b then RoutingTurn tick mask ∷ run_of number calls else []) ≡ []
     go true e = cc
     go false e = refl
 has_turn number (Confirmed other ∷ calls) none = go (run_of number calls) none (has_turn number calls)
@@ -306,7 +306,7 @@ module _ (site : Site) (facts : ℕ → List Moment → Facts) (kept : Retained)
       made = if goes_on site facts kept done output before then tick_of before ∷ stays else []
 
       turned : (c : Bool) → goes_on site facts kept done output before ≡ c
-          → Agrees plan.number (TurnMade (tick_of before) (mask_at before) ∷ routing_calls site facts kept done plan.panel before)
+          → Agrees plan.number (RoutingTurn (tick_of before) (mask_at before) ∷ routing_calls site facts kept done plan.panel before)
           (if c then tick_of before ∷ stays else []) (confirmations output before)
       turned true goes =
           agrees_on plan.number (tick_of before) (mask_at before) (routing_calls site facts kept done plan.panel before) stays
@@ -317,7 +317,7 @@ module _ (site : Site) (facts : ℕ → List Moment → Facts) (kept : Retained)
 
       by : (b : Bool)
           → Agrees plan.number
-          (if b then TurnMade (tick_of before) (mask_at before) ∷ routing_calls site facts kept done plan.panel before
+          (if b then RoutingTurn (tick_of before) (mask_at before) ∷ routing_calls site facts kept done plan.panel before
           else routing_calls site facts kept done plan.panel before) (if b then made else stays) (confirmations output before)
       by true = turned (goes_on site facts kept done output before) refl
       by false = h

@@ -15,7 +15,7 @@ use Rattle.site_types.specs.Done.{Done, DelaysOff, in_force, is_on, is_override}
 use Rattle.site_types.specs.Done.{override_done_in, value_set}
 use Rattle.site_types.specs.Valid.{IsValid}
 use Rattle.site_types.proofs.Done.{in_force-yet}
-use Rattle.output_delays.specs.Runs.{Turned as TurnMade, are_active, began, delay_in}
+use Rattle.output_delays.specs.Runs.{Turned as DelayTurn, are_active, began, delay_in}
 use Rattle.output_delays.specs.Runs.{delay_of as delay_by_number, is_asked, is_by_hand, overrides_of, request_ticks}
 use Rattle.output_delays.specs.Overrides.{is_any_in}
 use Rattle.panel_rules.specs.Moments.{Moment, Began, Happened, Turned, Kept, tick_of}
@@ -70,7 +70,7 @@ module _ (site : Site) (facts : ℕ → List Moment → Facts) (kept : Retained)
     where
       go : (b : Bool) → are_active kept_on (delay_calls site facts done panel before) ≡ not (in_force site kept (DelaysOff panel) (tick_of before) done)
           → are_active kept_on
-          (if b then TurnMade (tick_of before) (requests_at site facts panel before) ∷ delay_calls site facts done panel before
+          (if b then DelayTurn (tick_of before) (requests_at site facts panel before) ∷ delay_calls site facts done panel before
           else delay_calls site facts done panel before) ≡ not (in_force site kept (DelaysOff panel) (tick_of before) done)
       go true h = h
       go false h = h
@@ -99,7 +99,7 @@ module _ (site : Site) (facts : ℕ → List Moment → Facts) (kept : Retained)
       go : (b : Bool)
           → is_any_in first now (overrides_of (delay_calls site facts done panel before)) ≡ override_done_in panel first (tick_of before) done
           → is_any_in first now
-          (overrides_of (if b then TurnMade (tick_of before) (requests_at site facts panel before) ∷ delay_calls site facts done panel before
+          (overrides_of (if b then DelayTurn (tick_of before) (requests_at site facts panel before) ∷ delay_calls site facts done panel before
           else delay_calls site facts done panel before)) ≡ override_done_in panel first (tick_of before) done
       go true h = h
       go false h = h
@@ -161,7 +161,7 @@ module _ (site : Site) (facts : ℕ → List Moment → Facts) (done : List Done
     where
       go : (b : Bool)
           → request_ticks plan.number
-          (if b then TurnMade (tick_of before) (requests_at site facts plan.panel before) ∷ delay_calls site facts done plan.panel before
+          (if b then DelayTurn (tick_of before) (requests_at site facts plan.panel before) ∷ delay_calls site facts done plan.panel before
           else delay_calls site facts done plan.panel before)
           ≡ (if b then (if is_requested site facts output before then tick_of before ∷ asked_run site facts output before else [])
           else asked_run site facts output before)

@@ -11,7 +11,7 @@ use Rattle.site_types.specs.declared.site.Site.{Site}
 use Rattle.site_types.specs.Done.{Done, DelaysOff, OutputOff, override_done_in}
 use Rattle.site_types.proofs.Done.{in_force-later, override-later, silence-later}
 use Rattle.site_types.proofs.LaterDone.{AreFrom}
-use Rattle.routing_outputs.specs.Confirmations.{Call, Turned as TurnMade}
+use Rattle.routing_outputs.specs.Confirmations.{Call, Turned as RoutingTurn}
 use Rattle.output_delays.specs.Runs.{Call as DelayCall, Turned as DelayTurn}
 use Rattle.sounder_control.specs.Quiet.{Call as SilenceCall, Drove}
 use Rattle.panel_rules.specs.Moments.{Moment, Began, Happened, Turned, Kept, tick_of, is_turn}
@@ -116,10 +116,10 @@ module _ (site : Site) (facts : ℕ → List Moment → Facts) (kept : Retained)
   routing_later panel (Began ∷ before) by = routing_later panel before (omega (arith, by))
   routing_later panel (Happened event ∷ before) by = ap (and_confirmed site panel event) (routing_later panel before by)
   routing_later panel (Turned other Drive ∷ before) by =
-      ap (λ (calls : List Call). if other == panel then TurnMade (tick_of before)
+      ap (λ (calls : List Call). if other == panel then RoutingTurn (tick_of before)
       (outputs_where site panel (λ output. is_on site facts kept (new ++ old) output (Turned panel Drive ∷ before))) ∷ calls else calls)
       (routing_later panel before by)
-      ∙ ap (λ (test : ℕ → Bool). if other == panel then TurnMade (tick_of before) (outputs_where site panel test)
+      ∙ ap (λ (test : ℕ → Bool). if other == panel then RoutingTurn (tick_of before) (outputs_where site panel test)
       ∷ routing_calls site facts kept old panel before else routing_calls site facts kept old panel before)
       (fun_ext (λ output. on_later output (Turned panel Drive ∷ before) by))
   routing_later panel (Turned other Poll ∷ before) by = routing_later panel before by

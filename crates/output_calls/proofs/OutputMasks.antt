@@ -12,7 +12,7 @@ use Rattle.site_types.specs.Done.{Done}
 use Rattle.site_types.specs.Profile.{routing_of}
 use Rattle.site_types.proofs.Masks.{has_bit-mask, mask_same}
 use Rattle.output_delays.specs.Overrides.{AllUpTo}
-use Rattle.output_delays.specs.Runs.{Call, Turned as TurnMade, is_through, overrides_of}
+use Rattle.output_delays.specs.Runs.{Call, Turned as DelayTurn, is_through, overrides_of}
 use Rattle.routing_outputs.specs.declared.routing_state.RoutingState.TheVariants.{Idle}
 use Rattle.routing_outputs.specs.Confirmations.{is_confirming_output, run_of, state_in, state_of, is_confirmed}
 use Rattle.routing_outputs.specs.Confirmations.{is_unconfirmed as is_unconfirmed_state}
@@ -138,7 +138,7 @@ overrides_over site facts done panel (Turned other Drive ∷ before) = go (other
   where
     go : (b : Bool) → AllUpTo (tick_of before) (overrides_of (delay_calls site facts done panel before))
         → AllUpTo (tick_of before)
-        (overrides_of (if b then TurnMade (tick_of before) (requests_at site facts panel before) ∷ delay_calls site facts done panel before
+        (overrides_of (if b then DelayTurn (tick_of before) (requests_at site facts panel before) ∷ delay_calls site facts done panel before
         else delay_calls site facts done panel before))
     go true h = h
     go false h = h

@@ -11,7 +11,7 @@ use Rattle.site_types.specs.declared.site.Site.{Site}
 use Rattle.site_types.specs.Bits.{has_bit}
 use Rattle.site_types.specs.Done.{Done}
 use Rattle.site_types.specs.Valid.{IsValid}
-use Rattle.output_delays.specs.Runs.{Call, Turned as TurnMade, Overrode, Switched, is_through}
+use Rattle.output_delays.specs.Runs.{Call, Turned as DelayTurn, Overrode, Switched, is_through}
 use Rattle.panel_rules.specs.Moments.{Moment, Began, Happened, Turned, Kept, tick_of}
 use Rattle.panel_rules.specs.Markers.{Facts}
 use Rattle.panel_rules.specs.Outputs.{outputs_where, is_requested, is_requested_by_hand, may_act}
@@ -41,7 +41,7 @@ module _ (site : Site) (facts : ℕ → List Moment → Facts) where
       and_done_in (and_delaying (tick_of before)) panel (tick_of before) done (delay_calls done panel before)
   delay_calls done panel (Happened event ∷ before) = delay_calls done panel before
   delay_calls done panel (Turned other Drive ∷ before) =
-      if other == panel then TurnMade (tick_of before) (requests_at panel before)
+      if other == panel then DelayTurn (tick_of before) (requests_at panel before)
       ∷ delay_calls done panel before else delay_calls done panel before
   delay_calls done panel (Turned other task ∷ before) = delay_calls done panel before
   delay_calls done panel (Kept failed ∷ before) = delay_calls done panel before

@@ -10,7 +10,7 @@ use Rattle.site_types.specs.declared.site.Site.{Site}
 use Rattle.site_types.specs.Done.{Done}
 use Rattle.site_types.specs.Profile.{routing_of}
 use Rattle.site_types.specs.Valid.{IsValid}
-use Rattle.routing_outputs.specs.Confirmations.{Call, Turned as TurnMade, Confirmed, state_of, is_confirmed}
+use Rattle.routing_outputs.specs.Confirmations.{Call, Turned as RoutingTurn, Confirmed, state_of, is_confirmed}
 use Rattle.routing_outputs.specs.Confirmations.{is_unconfirmed as is_unconfirmed_state}
 use Rattle.panel_rules.specs.Moments.{Moment, Began, Happened, Turned, Kept, tick_of, IsRun}
 use Rattle.panel_rules.specs.Markers.{Facts}
@@ -37,7 +37,7 @@ module _ (site : Site) (facts : ℕ → List Moment → Facts) (kept : Retained)
   routing_calls panel (Began ∷ before) = routing_calls panel before
   routing_calls panel (Happened event ∷ before) = and_confirmed site panel event (routing_calls panel before)
   routing_calls panel (Turned other Drive ∷ before) =
-      if other == panel then TurnMade (tick_of before)
+      if other == panel then RoutingTurn (tick_of before)
       (outputs_where site panel (λ output. is_on site facts kept done output (Turned panel Drive ∷ before)))
       ∷ routing_calls panel before else routing_calls panel before
   routing_calls panel (Turned other task ∷ before) = routing_calls panel before

@@ -19,7 +19,7 @@ impl Overrides {
         before: None,
     };
 
-    /// The same with an override in a tick that isn't before the others.
+    /// These overrides and one in a tick that isn't before them.
     pub fn note(self, at: Tick) -> Overrides
         ensures { (ticks : List ℕ) → Keeps ticks self → AllUpTo at.0 ticks
             → Keeps (at.0 ∷ ticks) result }

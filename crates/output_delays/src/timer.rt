@@ -15,7 +15,7 @@ impl Timer {
     ghost use Rattle.std.specs.Prelude.{◌≡◌};
     ghost use Rattle.output_delays.specs.Timers.{is_holding, turned};
 
-    /// The same timer after a turn of a tick.
+    /// The timer after a turn of a tick.
     pub fn turn(self, now: Tick, asked: bool) -> Timer
         ensures { result ≡ turned now asked self }
     {

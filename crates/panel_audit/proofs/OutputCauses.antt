@@ -16,7 +16,7 @@ use Rattle.audit_rules.specs.CanCause.{CanBeOn}
 use Rattle.audit_rules.specs.Shown.{text_tells_output}
 use Rattle.blocked_points.specs.declared.done_operation.DoneOperation.{DoneOperation}
 use Rattle.joined_panels.specs.declared.joined_panels.JoinedPanels.{JoinedPanels}
-use Rattle.joined_panels.specs.Stands.{StandsFor as JoinedStand}
+use Rattle.joined_panels.specs.Stands.{StandsFor as JoinedStandsFor}
 use Rattle.asked_markers.specs.declared.asked_markers.AskedMarkers.{AskedMarkers}
 use Rattle.asked_markers.specs.Solved.{GoesBy}
 use Rattle.shown_causes.specs.declared.shown_causes.ShownCauses.{ShownCauses}
@@ -141,7 +141,7 @@ shows_some faces output place at on none =
 -- then the panel's markers are solved over all that it may have heard
 pub heard_there : (site : Site) (kept : Retained) (operations : List DoneOperation) (timeline : Timeline) (ticks : List TickBlock) (causes : ShownCauses)
     (joined : JoinedPanels) (faces : List Face) (heard : List AskedMarkers) (asked : AskedMarkers) (output : Output) (on : Bool)
-    → HaveHeard site causes joined faces heard → CausesStand site kept operations timeline ticks causes → JoinedStand site ticks joined
+    → HaveHeard site causes joined faces heard → CausesStand site kept operations timeline ticks causes → JoinedStandsFor site ticks joined
     → 1 ≤ output.panel → slice_get heard (output.panel - 1) ≡ Some asked → on ≡ true → on ≡ on_by faces output
     → GoesBy site asked.facts asked × TellAllHeard site kept operations timeline ticks output.panel asked.facts
 heard_there site kept operations timeline ticks causes joined faces heard asked output on have stand joins some is lit shown =

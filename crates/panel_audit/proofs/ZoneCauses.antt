@@ -14,7 +14,7 @@ use Rattle.audit_rules.specs.Shown.{text_tells_zone}
 use Rattle.blocked_points.specs.declared.done_operation.DoneOperation.{DoneOperation}
 use Rattle.blocked_points.specs.Operations.{done_newest_first}
 use Rattle.joined_panels.specs.declared.joined_panels.JoinedPanels.{JoinedPanels}
-use Rattle.joined_panels.specs.Stands.{StandsFor as JoinedStand}
+use Rattle.joined_panels.specs.Stands.{StandsFor as JoinedStandsFor}
 use Rattle.shown_causes.specs.declared.shown_causes.ShownCauses.{ShownCauses}
 use Rattle.shown_causes.specs.Heard.{StandsFor as CausesStand}
 use Rattle.panel_audit.specs.declared.numbered.Numbered.{Numbered}
@@ -74,7 +74,7 @@ module _ (site : Site) (kept : Retained) (operations : List DoneOperation) (time
           some_is : Some other ≡ Some plan → other ≡ plan
           some_is e = cc
 
-  module _ (causes : ShownCauses) (joined : JoinedPanels) (stand : CausesStand site kept operations timeline ticks causes) (joins : JoinedStand site ticks joined)
+  module _ (causes : ShownCauses) (joined : JoinedPanels) (stand : CausesStand site kept operations timeline ticks causes) (joins : JoinedStandsFor site ticks joined)
     where
       pub panel_scanned : (marks : List Bool) (first : Option ℕ) → length marks ≡ length zones
           → AreWritten (MarksUncaused site zones causes joined (place + 1) shown_there) (length marks) marks → MarkedLowest zones marks first
@@ -93,7 +93,7 @@ pub shown_scanned : (site : Site) (zones : List Numbered) (causes : ShownCauses)
     (first : Option ℕ) (shown : List ℕ) → shown ≡ (get_or faces place (empty_face (place + 1))).zones → length marks ≡ length zones
     → AreWritten (MarksUncaused site zones causes joined (place + 1) shown) (length marks) marks → MarkedLowest zones marks first
     → (kept : Retained) (operations : List DoneOperation) (timeline : Timeline) (ticks : List TickBlock) → AreZoneNumbers site.zones zones
-    → CausesStand site kept operations timeline ticks causes → JoinedStand site ticks joined → AreFacesAfter timeline (length ticks) faces
+    → CausesStand site kept operations timeline ticks causes → JoinedStandsFor site ticks joined → AreFacesAfter timeline (length ticks) faces
     → FirstPlace zones (IsUncaused site kept (done_newest_first operations) timeline (moments ticks) (place + 1)) first
 shown_scanned site zones causes joined faces place marks first shown shown_are size written lowest kept operations timeline ticks numbers stand joins are =
     panel_scanned site kept operations timeline ticks zones place numbers faces are causes joined stand joins marks first size

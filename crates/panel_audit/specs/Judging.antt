@@ -12,7 +12,7 @@ use Rattle.blocked_points.specs.Operations.{AreDoneInOrder, done_newest_first}
 use Rattle.signal_points.specs.Stands.{StandsFor as SignalsStand}
 use Rattle.signal_points.specs.States.{NextTick}
 use Rattle.zone_signals.specs.StandsFor.{StandsFor as LeastStand}
-use Rattle.joined_panels.specs.Stands.{StandsFor as JoinedStand}
+use Rattle.joined_panels.specs.Stands.{StandsFor as JoinedStandsFor}
 use Rattle.due_zones.specs.Telling.{AreDueAtEach}
 use Rattle.due_zones.specs.declared.due_zones.DueZones.{DueZones}
 use Rattle.due_outputs.specs.Stands.{StandsFor as DuesStand}
@@ -27,7 +27,7 @@ module _ (site : Site) (kept : Retained) (timeline : Timeline) (operations : Lis
   pub record JudgeStands (ticks : List TickBlock) (judge : Judge) : Type 0 where
     pub signals : SignalsStand site kept operations ticks judge.signals
     pub least : LeastStand site kept operations (moments ticks) judge.least
-    pub joined : JoinedStand site ticks judge.joined
+    pub joined : JoinedStandsFor site ticks judge.joined
     pub dues : DuesStand site kept (done_newest_first operations) ticks judge.dues
     pub excused : ExcusedStand site kept operations (length ticks) judge.excused
     pub causes : CausesStand site kept operations timeline ticks judge.causes

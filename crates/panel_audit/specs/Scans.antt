@@ -14,7 +14,7 @@ use Rattle.audit_rules.specs.Shown.{faces_after}
 use Rattle.blocked_points.specs.declared.done_operation.DoneOperation.{DoneOperation}
 use Rattle.blocked_points.specs.Operations.{done_newest_first}
 use Rattle.joined_panels.specs.declared.joined_panels.JoinedPanels.{JoinedPanels}
-use Rattle.joined_panels.specs.Stands.{StandsFor as JoinedStand}
+use Rattle.joined_panels.specs.Stands.{StandsFor as JoinedStandsFor}
 use Rattle.asked_markers.specs.declared.asked_markers.AskedMarkers.{AskedMarkers}
 use Rattle.asked_markers.specs.Solved.{GoesBy}
 use Rattle.due_zones.specs.declared.due_zones.DueZones.{DueZones}
@@ -48,7 +48,7 @@ abbrev pub MarksUncaused : Site → List Numbered → ShownCauses → JoinedPane
 MarksUncaused site zones causes joined panel shown place mark =
     (kept : Retained) (operations : List DoneOperation) (timeline : Timeline) (ticks : List TickBlock)
     (thing : Numbered) → AreZoneNumbers site.zones zones → CausesStand site kept operations timeline ticks causes
-    → JoinedStand site ticks joined → slice_get zones place ≡ Some thing
+    → JoinedStandsFor site ticks joined → slice_get zones place ≡ Some thing
     → (mark ≡ true) ↔ ((is_in_masks shown thing ≡ true)
     × ¬ CanBeShown site timeline kept (done_newest_first operations) (moments_of ticks) panel place)
 
@@ -57,7 +57,7 @@ abbrev pub ScansUncaused : Site → List Numbered → ShownCauses → JoinedPane
 ScansUncaused site zones causes joined faces found =
     (kept : Retained) (operations : List DoneOperation) (timeline : Timeline) (ticks : List TickBlock)
     → AreZoneNumbers site.zones zones → CausesStand site kept operations timeline ticks causes
-    → JoinedStand site ticks joined → AreFacesAfter timeline (length ticks) faces
+    → JoinedStandsFor site ticks joined → AreFacesAfter timeline (length ticks) faces
     → FirstFound zones (IsUncaused site kept (done_newest_first operations) timeline (moments_of ticks)) site.panels
     found
 
@@ -101,7 +101,7 @@ abbrev pub TellsBaseless : Site → List Face → List AskedMarkers → ℕ → 
 TellsBaseless site faces heard place result =
     (kept : Retained) (operations : List DoneOperation) (timeline : Timeline) (ticks : List TickBlock) (causes :
     ShownCauses) (joined : JoinedPanels) → HasNoCycle site → HaveHeard site causes joined faces heard
-    → CausesStand site kept operations timeline ticks causes → JoinedStand site ticks joined
+    → CausesStand site kept operations timeline ticks causes → JoinedStandsFor site ticks joined
     → AreFacesAfter timeline (length ticks) faces
     → (result ≡ true) ↔ IsBaseless site kept (done_newest_first operations) timeline (moments_of ticks) place
 
@@ -111,6 +111,6 @@ abbrev pub ScansBaseless : Site → List Numbered → ShownCauses → JoinedPane
 ScansBaseless site outputs causes joined faces heard found =
     (kept : Retained) (operations : List DoneOperation) (timeline : Timeline) (ticks : List TickBlock) → HasNoCycle site
     → HeardSolved site heard → AreOutputNumbers site.outputs outputs
-    → CausesStand site kept operations timeline ticks causes → JoinedStand site ticks joined
+    → CausesStand site kept operations timeline ticks causes → JoinedStandsFor site ticks joined
     → AreFacesAfter timeline (length ticks) faces
     → FirstPlace outputs (IsBaseless site kept (done_newest_first operations) timeline (moments_of ticks)) found

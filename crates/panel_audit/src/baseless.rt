@@ -74,7 +74,7 @@ fn hear_each(
     }
 }
 
-// The same for the panel at a place.
+// Goes over the markers of the panel at a place by what it may have heard, where its face shows an output.
 fn hear(
     asked: &mut AskedMarkers,
     site: &Site,

@@ -9,7 +9,7 @@ use site_types::Site;
 use std::alloc::Global;
 use tick_units::NoMemory;
 
-/// Those of the zones, by their places.
+/// The numbers of the zones, by their places.
 pub(crate) fn zone_numbers(alloc: Global, site: &Site) -> Result<Vec<Numbered>, NoMemory>
     requires { IsValid site.now }
     ensures { IfOk result (λ things. AreZoneNumbers site.now.zones things.items) }
@@ -25,7 +25,7 @@ pub(crate) fn zone_numbers(alloc: Global, site: &Site) -> Result<Vec<Numbered>, 
     Ok(things)
 }
 
-/// Those of the outputs, by their places.
+/// The numbers of the outputs, by their places.
 pub(crate) fn output_numbers(alloc: Global, site: &Site) -> Result<Vec<Numbered>, NoMemory>
     requires { IsValid site.now }
     ensures { IfOk result (λ things. AreOutputNumbers site.now.outputs things.items) }

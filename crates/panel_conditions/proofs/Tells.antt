@@ -19,7 +19,7 @@ use Rattle.coincidence_rules.specs.declared.finding.Finding.{Finding}
 use Rattle.coincidence_rules.specs.Places.{is_of, lies_in, is_call_point, detects, rule_of}
 use Rattle.coincidence_rules.specs.Counted.{is_counted}
 use Rattle.coincidence_rules.specs.Alarm.{calls, is_in_alarm, is_by_hand, is_released}
-use Rattle.coincidence_rules.specs.First.{tells_first as answer_tells_first, is_first_by, is_first}
+use Rattle.coincidence_rules.specs.First.{tells_first as tells_first_by, is_first_by, is_first}
 use Rattle.coincidence_rules.specs.Findings.{finding_among, findings_after, findings_of}
 use Rattle.coincidence_rules.specs.InOrder.{AreInOrder}
 use Rattle.coincidence_rules.specs.Missing.{latest_of, begins_silent, is_missing}
@@ -81,7 +81,7 @@ module _ (site : Site) (kept : Retained) (done : List Done) (answers : List Answ
       ∙ manual_tells site kept done answers place zone (nat_lt (floor_before site place tick done)) wired is
 
   one_tells : (within : ℕ) (all : List Answer) (a : Answer) →
-      tells_first site done within place tick (finding_among site kept zone.panel done all a) ≡ answer_tells_first site kept done within place tick a
+      tells_first site done within place tick (finding_among site kept zone.panel done all a) ≡ tells_first_by site kept done within place tick a
   one_tells within all a =
       let f = finding_among site kept zone.panel done all a in
       let rest = (nat_lt (floor_before site place tick done) a.stamp.0 && nat_lt (cancelled_before place tick done) a.stamp.0)
@@ -100,7 +100,7 @@ module _ (site : Site) (kept : Retained) (done : List Done) (answers : List Answ
   first_by_tells order (Some (B within)) =
       ap (λ b. not b && list_any (tells_first site done within place tick) (findings_of site kept zone.panel done answers)) (alarm_tells order)
       ∙ ap (λ b. not (is_in_alarm site kept done answers place tick) && b)
-      (any_alone site kept zone.panel done (tells_first site done within place tick) (answer_tells_first site kept done within place tick)
+      (any_alone site kept zone.panel done (tells_first site done within place tick) (tells_first_by site kept done within place tick)
       (one_tells within) [] answers)
   first_by_tells order (Some C) = refl
 

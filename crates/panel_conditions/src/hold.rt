@@ -266,10 +266,10 @@ fn take_runs(points: &mut Points, zones: &mut Zones, runs: &[Run<FindingGroup>])
     }
 }
 
-ghost use Rattle.site_types.specs.Done.{is_mute as mutes_all};
+ghost use Rattle.site_types.specs.Done.{is_mute as is_muting};
 
 fn is_mute(operation: &Operation) -> bool
-    ensures { result ≡ mutes_all operation.now }
+    ensures { result ≡ is_muting operation.now }
 {
     matches!(operation, Operation::Mute)
 }

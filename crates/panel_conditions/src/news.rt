@@ -1,7 +1,7 @@
 ghost use Rattle.std.specs.Prelude.{◌≡◌, not, ◌==◌};
 ghost use Rattle.panel_conditions.specs.Shown.{has_more, has_more_faults, has_more_points, is_news as shows_news};
 ghost use Rattle.panel_conditions.specs.Shown.{line_has_more, sounds as buzzer_sounding};
-ghost use Rattle.panel_conditions.specs.Words.{has_fault as some_fault, has_points as some_point};
+ghost use Rattle.panel_conditions.specs.Words.{has_fault as some_fault, has_points as panel_has_points};
 ghost use Rattle.panel_conditions.specs.Words.{some_on_line as some_of_line};
 
 use site_types::{Buzzer, FaultSet, PointSet, Word};
@@ -18,7 +18,7 @@ pub fn has_fault(faults: &FaultSet) -> bool
 }
 
 fn has_points(set: &PointSet) -> bool
-    ensures { result ≡ some_point set.now }
+    ensures { result ≡ panel_has_points set.now }
 {
     some_on_line(&set.loops[0])
         || (some_on_line(&set.loops[1])

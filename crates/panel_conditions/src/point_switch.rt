@@ -16,7 +16,7 @@ pub struct PointSwitch {
 }
 
 impl PointSwitch {
-    /// These points, from the opening on.
+    /// A switch that has been on for these points since the opening.
     pub fn new(points: PointSet) -> PointSwitch
         ensures { result ≡ points_from points }
     {

@@ -15,7 +15,7 @@ impl System {
     pub fn face(&self, panel: u8) -> Face
         requires { HasPanel panel self.now }
         ensures shown { ShowsFace self.now panel result }
-        // So it shows what is due in time, and nothing without its cause.
+        // What is due in time is shown, and nothing without its cause.
         ensures zones { PromisedZones self.now panel result }
         ensures outputs { PromisedOutputs self.now panel result }
         ensures faults { PromisedFaults self.now panel result }

@@ -4,7 +4,7 @@ use Rattle.desk_answers.specs.AnswerHeads.{answer_head}
 use Rattle.desk_answers.specs.Objects.{object_text}
 use Rattle.desk_answers.specs.ProfileTables.{table_text}
 use Rattle.desk_answers.specs.declared.content.Content.TheVariants.{Json, Text, Table as CsvTable}
-use Rattle.desk_answers.specs.declared.object.Object.{Object as AnObject}
+use Rattle.desk_answers.specs.declared.object.Object.{Object as JsonObject}
 use Rattle.desk_answers.specs.declared.object.Object.TheVariants.{Empty, RefusedLine, OtherTick, OtherVisit, Denied}
 use Rattle.desk_answers.specs.declared.object.Object.TheVariants.{Tested, Stopped as StopObject}
 use Rattle.desk_faces.specs.FaceObjects.{face_object}
@@ -102,7 +102,7 @@ status_of Profile = Done
 status_of (Tick changed) = Done
 status_of (Other reply) = register_status reply
 
-abbrev pub stops_with : AnObject → Bool
+abbrev pub stops_with : JsonObject → Bool
 stops_with Empty = false
 stops_with (RefusedLine line refusal) = false
 stops_with (OtherTick expected found) = false

@@ -209,7 +209,7 @@ impl MemoryDisk {
         ensures file { IfOk result
             (λ file. file.items ≡ cut_by self.now.start.items (take calls (log_of self.now))
             kept.now) }
-        // It is one of the images since each moment up to the last of these calls.
+        // The file is one of the images since each moment up to the last of these calls.
         ensures image { IfOk result (λ file. (t : ℕ) → t ≤ calls → t ≤ moment_of self.now
             → left_of self.now t file.items) }
     {

@@ -29,7 +29,7 @@ fn pad(bytes: &mut Vec<u8>, len: usize) -> Result<(), AllocError>
     Ok(())
 }
 
-// The same in room that is reserved.
+// Writes a piece over the bytes from a place on, in room that is reserved.
 pub(crate) fn overwrite_reserved(bytes: &mut Vec<u8>, at: usize, piece: &[u8])
     requires { max (length bytes.old.items) (at + length piece.now) ≤ vec_capacity bytes.old }
     ensures items { bytes.new.items ≡ overwritten at piece.now bytes.old.items }

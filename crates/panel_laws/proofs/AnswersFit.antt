@@ -15,7 +15,7 @@ use Rattle.site_types.specs.Limits.{most_operations}
 use Rattle.access_levels.specs.Levels.{holds, level_in, level_of, needed_by}
 use Rattle.face_text.specs.declared.op_answer.OpAnswer.{OpAnswer}
 use Rattle.face_text.specs.declared.reply.Reply.{Reply as TextReply}
-use Rattle.face_text.specs.declared.reply.Reply.TheVariants.{Done as DoneText, Denied as DeniedText, Waiting as WaitingText, Already as AlreadyText, Store as StoreText}
+use Rattle.face_text.specs.declared.reply.Reply.TheVariants.{Done as DoneReply, Denied as DeniedReply, Waiting as WaitingText, Already as AlreadyText, Store as StoreReply}
 use Rattle.face_text.specs.Timelines.{IsReply}
 use Rattle.panel_rules.specs.Moments.{Moment, Began, Happened, Turned, Kept, tick_of}
 use Rattle.panel_rules.specs.Operations.{Request, Reply, Busy, Denied, Waiting, Already, Store, WasDone, Answered}
@@ -67,11 +67,11 @@ is_told_or_busy a = go a.reply refl
       where
         as_op : TextReply → OpAnswer
         as_op x = record { number = a.request.number; reply = x }
-    go (Denied needs has) e = inr (told_as (Denied needs has) (DeniedText needs has) e refl refl (λ g. g))
+    go (Denied needs has) e = inr (told_as (Denied needs has) (DeniedReply needs has) e refl refl (λ g. g))
     go Waiting e = inr (told_as Waiting WaitingText e refl refl (λ g. g))
     go Already e = inr (told_as Already AlreadyText e refl refl (λ g. g))
-    go Store e = inr (told_as Store StoreText e refl refl (λ g. g))
-    go WasDone e = inr (told_as WasDone DoneText e refl refl (λ g. g))
+    go Store e = inr (told_as Store StoreReply e refl refl (λ g. g))
+    go WasDone e = inr (told_as WasDone DoneReply e refl refl (λ g. g))
 
 -- ---- levels
 

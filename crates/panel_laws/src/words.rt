@@ -40,8 +40,8 @@ pub fn kept_by_the_ring()
     ensures { KeptByTheRing }
 {}
 
-/// It is the word of the greatest stamp that came over any chain of turns, along links that were up, in ticks
-/// that carried it.
+/// The word kept of a panel is the one of the greatest stamp that came over any chain of turns, along links that
+/// were up, in ticks that carried it.
 pub fn newest_over_chains()
     ensures { NewestOverChains }
 {}

@@ -1,5 +1,5 @@
 ghost use Rattle.std.specs.Prelude.{◌≡◌};
-ghost use Rattle.panel_program.specs.Endings.{status_by as status_told_by, status_of as status_told};
+ghost use Rattle.panel_program.specs.Endings.{status_by as status_told_by, status_of as status_of_end};
 
 use program_status::Status;
 use record_lines::{Refusal, Why};
@@ -19,7 +19,7 @@ pub enum RunEnd {
 
 /// The status of a run with this end.
 pub fn status_of(end: RunEnd) -> Status
-    ensures { result ≡ status_told end }
+    ensures { result ≡ status_of_end end }
 {
     match end {
         RunEnd::Ended => Status::Done,

@@ -16,8 +16,8 @@ use Rattle.face_text.specs.declared.timeline.Timeline.{Timeline}
 use Rattle.face_text.specs.Faces.{same_faces}
 use Rattle.face_text.specs.Timelines.{text_of}
 use Rattle.panel_rules.specs.Moments.{Moment, Began, Happened, Turned, Kept, tick_of, up_to}
-use Rattle.panel_rules.specs.Operations.{Request, Answered, Reply as ReplyOf, Busy, Denied as DeniedTo}
-use Rattle.panel_rules.specs.Operations.{Waiting as Waits, Already as StandsSo, Store as NotStored, WasDone, requests}
+use Rattle.panel_rules.specs.Operations.{Request, Answered, Reply as ReplyOf, Busy, Denied as DeniedOf}
+use Rattle.panel_rules.specs.Operations.{Waiting as WaitingOf, Already as AlreadyOf, Store as StoreOf, WasDone, requests}
 use Rattle.panel_rules.specs.Operations.{operations}
 use Rattle.panel_rules.specs.Batches.{kept_after}
 use Rattle.panel_rules.specs.Faces.{face_with}
@@ -34,10 +34,10 @@ failed_ticks (Kept failed ∷ before) =
 -- an answer as it is told by its number; one that found its panel busy is told by the panel alone
 abbrev pub told_reply : ReplyOf → Option Reply
 told_reply Busy = None
-told_reply (DeniedTo needs has) = Some (Denied needs has)
-told_reply Waits = Some Waiting
-told_reply StandsSo = Some Already
-told_reply NotStored = Some Store
+told_reply (DeniedOf needs has) = Some (Denied needs has)
+told_reply WaitingOf = Some Waiting
+told_reply AlreadyOf = Some Already
+told_reply StoreOf = Some Store
 told_reply WasDone = Some Done
 
 abbrev pub told_answer : Answered → Option OpAnswer
@@ -47,10 +47,10 @@ told_answer answered =
 
 abbrev pub is_busy : ReplyOf → Bool
 is_busy Busy = true
-is_busy (DeniedTo needs has) = false
-is_busy Waits = false
-is_busy StandsSo = false
-is_busy NotStored = false
+is_busy (DeniedOf needs has) = false
+is_busy WaitingOf = false
+is_busy AlreadyOf = false
+is_busy StoreOf = false
 is_busy WasDone = false
 
 -- how many of some operations found a panel busy

@@ -4,7 +4,7 @@ use Rattle.std.proofs.Math.Path.{fun_ext}
 use Rattle.std.proofs.lemmas.Bool.Decides.{eqb_tells}
 use Rattle.site_types.specs.declared.loop_plan.LoopPlan.{LoopPlan}
 use Rattle.site_types.specs.declared.piece_state.PieceState.{PieceState}
-use Rattle.site_types.specs.declared.event.Event.TheVariants.{Cable as CableTold}
+use Rattle.site_types.specs.declared.event.Event.TheVariants.{Cable as CableEvent}
 use Rattle.isolators.specs.declared.loop_line.LoopLine.{LoopLine}
 use Rattle.isolators.specs.Reach.{with_piece}
 use Rattle.isolators.specs.Stands.{StandsFor}
@@ -29,7 +29,7 @@ module _ (plan : LoopPlan) (panel line : ℕ) (before : List MomentOf) (cable : 
   -- a report on the loop
   pub told_here : (of_panel of_line piece : ℕ) (state : PieceState) → of_panel ≡ panel → of_line ≡ line
       → StandsFor plan (with_piece (λ k. piece_of panel line k before) piece state) cable
-      → StandsFor plan (λ k. piece_of panel line k (moment_of (Happened (CableTold of_panel of_line piece state)) ∷ before)) cable
+      → StandsFor plan (λ k. piece_of panel line k (moment_of (Happened (CableEvent of_panel of_line piece state)) ∷ before)) cable
   told_here of_panel of_line piece state p l h =
       subst (λ c. StandsFor plan c cable) (here (λ k. piece_of panel line k before) of_panel of_line piece state p l) h
 
@@ -45,7 +45,7 @@ module _ (plan : LoopPlan) (panel line : ℕ) (before : List MomentOf) (cable : 
   -- a report on another one
   pub told_elsewhere : (of_panel of_line piece : ℕ) (state : PieceState) → ((of_panel == panel) && (of_line == line)) ≡ false
       → StandsFor plan (λ k. piece_of panel line k before) cable
-      → StandsFor plan (λ k. piece_of panel line k (moment_of (Happened (CableTold of_panel of_line piece state)) ∷ before)) cable
+      → StandsFor plan (λ k. piece_of panel line k (moment_of (Happened (CableEvent of_panel of_line piece state)) ∷ before)) cable
   told_elsewhere of_panel of_line piece state n h =
       subst (λ c. StandsFor plan c cable) (elsewhere (λ k. piece_of panel line k before) of_panel of_line piece state n) h
 

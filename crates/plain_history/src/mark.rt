@@ -55,7 +55,7 @@ fn latest_before(site: &Site, mark: Mark, tick: Tick, done: &[Done]) -> Tick
 
 ghost use Rattle.std.specs.Prelude.{◌&&◌, if◌then◌else◌, max, nat_lt, option_copied};
 ghost use Rattle.site_types.specs.Done.{is_cancel as is_cancelling, is_floor as is_floor_of, is_mute as is_muting};
-ghost use Rattle.site_types.specs.Done.{is_of_panel as lies_at};
+ghost use Rattle.site_types.specs.Done.{is_of_panel as is_of_panel_by};
 ghost use Rattle.plain_history.specs.Histories.{done_of};
 
 // The latest tick after one more operation.
@@ -91,7 +91,7 @@ fn is_floor(site: &Site, zone: usize, panel: u8, operation: Operation) -> bool
 }
 
 fn is_of_panel(panel: u8, zone: Option<&Zone>) -> bool
-    ensures { result ≡ lies_at panel (option_copied zone.entry) }
+    ensures { result ≡ is_of_panel_by panel (option_copied zone.entry) }
 {
     match zone {
         None => false,

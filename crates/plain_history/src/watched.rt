@@ -1,6 +1,6 @@
 ghost use Rattle.std.specs.Prelude.{◌≡◌, ◌+◌, ◌≤◌, ◌<◌, ◌^◌, ◌∷◌, [], List, ℕ};
 ghost use Rattle.site_types.specs.declared.supply_kind.SupplyKind.{SupplyKind as KindOf};
-ghost use Rattle.supply_monitor.specs.Supply.{Call as CallOf, bad_turns, is_bad, place_of};
+ghost use Rattle.supply_monitor.specs.Supply.{Call as SupplyCall, bad_turns, is_bad, place_of};
 ghost use Rattle.panel_rules.specs.Faults.{and_supply, supply_calls};
 ghost use Rattle.panel_rules.specs.Moments.{Moment as MomentOf, Turned as TurnedOf};
 ghost use Rattle.plain_history.specs.Histories.{moment_of};
@@ -127,7 +127,7 @@ impl Watched {
 
 // Whether a supply of a panel is bad after an event.
 fn bad_after(panel: u8, kind: SupplyKind, event: &Event, was: bool) -> bool
-    ensures { (calls : List CallOf) → was ≡ is_bad kind calls
+    ensures { (calls : List SupplyCall) → was ≡ is_bad kind calls
         → result ≡ is_bad kind (and_supply panel event.now calls) }
 {
     match *event {

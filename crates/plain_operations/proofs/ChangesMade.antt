@@ -7,7 +7,7 @@ use Rattle.std.specs.Int.Bits.{or_zero_r}
 use Rattle.std.specs.List.{cons_option}
 use Rattle.std.proofs.lemmas.Nat.{and_mask, pow-add}
 use Rattle.site_types.specs.declared.change.Change.{Change}
-use Rattle.site_types.specs.declared.item.Item.TheVariants.{Point as ThePoint, Zone as TheZone, Output as TheOutput}
+use Rattle.site_types.specs.declared.item.Item.TheVariants.{Point as PointItem, Zone as ZoneItem, Output as OutputItem}
 use Rattle.site_types.specs.declared.operation.Operation.{Operation}
 use Rattle.site_types.specs.declared.operation.Operation.TheVariants.{Mute, Override, Silence, Resound, Reset, Cancel, Disable, Enable, Test, Untest, Delays, Clear}
 use Rattle.site_types.specs.declared.output.Output.{Output}
@@ -50,12 +50,12 @@ place_test (Some z) on change h e = subst HasPlace (some_is _ change e) (h z ref
 module _ (site : Site) (valid : IsValid site) (panel : ℕ) where
   -- what an operation changes has a place
   pub has_place : (operation : Operation) (change : Change) → operation_change site panel operation ≡ Some change → HasPlace change
-  has_place (Disable (ThePoint point)) change e = place_point (slice_get site.points point) true change ((places_of site valid).point point) e
-  has_place (Disable (TheZone zone)) change e = place_zone (slice_get site.zones zone) true change ((places_of site valid).zone zone) e
-  has_place (Disable (TheOutput output)) change e = place_output (slice_get site.outputs output) true change ((places_of site valid).output output) e
-  has_place (Enable (ThePoint point)) change e = place_point (slice_get site.points point) false change ((places_of site valid).point point) e
-  has_place (Enable (TheZone zone)) change e = place_zone (slice_get site.zones zone) false change ((places_of site valid).zone zone) e
-  has_place (Enable (TheOutput output)) change e = place_output (slice_get site.outputs output) false change ((places_of site valid).output output) e
+  has_place (Disable (PointItem point)) change e = place_point (slice_get site.points point) true change ((places_of site valid).point point) e
+  has_place (Disable (ZoneItem zone)) change e = place_zone (slice_get site.zones zone) true change ((places_of site valid).zone zone) e
+  has_place (Disable (OutputItem output)) change e = place_output (slice_get site.outputs output) true change ((places_of site valid).output output) e
+  has_place (Enable (PointItem point)) change e = place_point (slice_get site.points point) false change ((places_of site valid).point point) e
+  has_place (Enable (ZoneItem zone)) change e = place_zone (slice_get site.zones zone) false change ((places_of site valid).zone zone) e
+  has_place (Enable (OutputItem output)) change e = place_output (slice_get site.outputs output) false change ((places_of site valid).output output) e
   has_place (Test zone) change e = place_test (slice_get site.zones zone) true change ((places_of site valid).zone zone) e
   has_place (Untest zone) change e = place_test (slice_get site.zones zone) false change ((places_of site valid).zone zone) e
   has_place (Delays on) change e = subst HasPlace (some_is _ change e) tt

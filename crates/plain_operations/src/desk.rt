@@ -47,7 +47,7 @@ impl Desk {
         &self.outcomes
     }
 
-    /// One moment more, in the tick that began last before it. Tells whether an operation was done.
+    /// Takes one moment more, in the tick that began last before it. Tells whether an operation was done.
     pub fn step(
         &mut self,
         site: &Site,

@@ -1,6 +1,6 @@
 ghost use Rattle.std.specs.Prelude.{◌≡◌};
 ghost use Rattle.std.specs.Int.{w8};
-ghost use Rattle.site_types.specs.declared.change.Change.TheVariants.{Clear as ClearOf, Delays as DelaysOf};
+ghost use Rattle.site_types.specs.declared.change.Change.TheVariants.{Clear as ClearChange, Delays as DelaysChange};
 ghost use Rattle.site_types.specs.Bits.{with_bit};
 ghost use Rattle.site_types.specs.Changes.{changed, changed_by};
 ghost use Rattle.site_types.specs.Valid.{IsValid};
@@ -49,7 +49,7 @@ pub fn make_change(stored: &mut Retained, change: &Change)
 }
 
 fn set_delays(stored: &mut Retained, panel: u8, off: bool)
-    ensures { stored.new ≡ changed (DelaysOf panel off) stored.old }
+    ensures { stored.new ≡ changed (DelaysChange panel off) stored.old }
 {
     stored.delays_off = with_place(stored.delays_off, panel.saturating_sub(1), off);
 }
@@ -66,7 +66,7 @@ fn with_place(mask: u8, place: u8, on: bool) -> u8
 }
 
 fn clear(stored: &mut Retained, panel: u8)
-    ensures { stored.new ≡ changed (ClearOf panel) stored.old }
+    ensures { stored.new ≡ changed (ClearChange panel) stored.old }
 {
     let place = panel.saturating_sub(1) as usize;
     if place < 8 {

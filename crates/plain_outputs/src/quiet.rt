@@ -7,7 +7,7 @@ ghost use Rattle.site_types.specs.declared.retained.Retained.{Retained as Retain
 ghost use Rattle.marker_table.specs.Equations.{zone_bit};
 ghost use Rattle.panel_rules.specs.Markers.{Facts as FactsOf};
 ghost use Rattle.panel_rules.specs.Moments.{Moment as MomentOf, tick_of, up_to as up_to_in};
-ghost use Rattle.panel_rules.specs.Outputs.{is_quiet as is_quiet_in, is_within as is_within_in};
+ghost use Rattle.panel_rules.specs.Outputs.{is_quiet as is_quiet_in, is_within as is_within_by};
 ghost use Rattle.panel_rules.specs.Outputs.{some_zone as some_zone_in, stays_within as stays_within_in};
 ghost use Rattle.plain_outputs.specs.Drives.{AreSeen};
 ghost use Rattle.panel_bridges.specs.FactMasks.{AreZones};
@@ -65,7 +65,7 @@ fn stays_within(site: &Site, panel: u8, since: Tick, zones: &[u32; 8], seen: &[S
 fn is_within(site: &Site, zones: &[u32; 8], others: &[u32; 8]) -> bool
     requires { IsValid site.now }
     ensures { (test other : ℕ → Bool) → AreZones site.now test zones.now
-        → AreZones site.now other others.now → result ≡ is_within_in site.now test other }
+        → AreZones site.now other others.now → result ≡ is_within_by site.now test other }
 {
     some_zone(site, zones) && !some_zone_without(site, zones, others)
 }

@@ -2,7 +2,7 @@ ghost use Rattle.std.specs.Prelude.{◌≡◌, ◌-◌, ℕ, count_by, slice_get
 ghost use Rattle.std.specs.List.{list_all, list_any};
 ghost use Rattle.site_types.specs.Bits.{has_bit};
 ghost use Rattle.site_types.specs.Valid.{IsValid};
-ghost use Rattle.marker_table.specs.Equations.{equation, holds as holds_in, is_met as meets, values_of, zone_bit};
+ghost use Rattle.marker_table.specs.Equations.{equation, holds as holds_over, is_met as meets, values_of, zone_bit};
 ghost use Rattle.panel_rules.specs.Markers.{Facts as FactsOf, solution};
 ghost use Rattle.panel_bridges.specs.FactMasks.{AreFacts};
 
@@ -51,7 +51,7 @@ fn evaluated(site: &Site, facts: &Facts, values: &Values) -> Values
 // Whether enough of a marker's terms hold.
 fn is_met(site: &Site, facts: &Facts, values: &Values, marker: &Marker) -> bool
     requires { IsValid site.now }
-    ensures { result ≡ meets marker.now.combine (holds_in site.now facts.now (values_of values.now))
+    ensures { result ≡ meets marker.now.combine (holds_over site.now facts.now (values_of values.now))
         marker.now.terms }
 {
     let terms = marker.terms.as_slice();
@@ -64,14 +64,14 @@ fn is_met(site: &Site, facts: &Facts, values: &Values, marker: &Marker) -> bool
 
 fn all_hold(site: &Site, facts: &Facts, values: &Values, terms: &[Term]) -> bool
     requires { IsValid site.now }
-    ensures { result ≡ list_all (holds_in site.now facts.now (values_of values.now)) terms.now }
+    ensures { result ≡ list_all (holds_over site.now facts.now (values_of values.now)) terms.now }
 {
     terms.iter().all(|term| holds(site, facts, values, *term))
 }
 
 fn any_holds(site: &Site, facts: &Facts, values: &Values, terms: &[Term]) -> bool
     requires { IsValid site.now }
-    ensures { result ≡ list_any (holds_in site.now facts.now (values_of values.now)) terms.now }
+    ensures { result ≡ list_any (holds_over site.now facts.now (values_of values.now)) terms.now }
 {
     terms.iter().any(|term| holds(site, facts, values, *term))
 }
@@ -79,7 +79,7 @@ fn any_holds(site: &Site, facts: &Facts, values: &Values, terms: &[Term]) -> boo
 // How many terms hold.
 fn count(site: &Site, facts: &Facts, values: &Values, terms: &[Term]) -> usize
     requires { IsValid site.now }
-    ensures { result ≡ count_by (holds_in site.now facts.now (values_of values.now)) terms.now }
+    ensures { result ≡ count_by (holds_over site.now facts.now (values_of values.now)) terms.now }
 {
     terms
         .iter()
@@ -90,7 +90,7 @@ fn count(site: &Site, facts: &Facts, values: &Values, terms: &[Term]) -> usize
 // Whether a term holds.
 fn holds(site: &Site, facts: &Facts, values: &Values, term: Term) -> bool
     requires { IsValid site.now }
-    ensures { result ≡ holds_in site.now facts.now (values_of values.now) term }
+    ensures { result ≡ holds_over site.now facts.now (values_of values.now) term }
 {
     match term {
         Term::Zone(zone) => has_zone(site, &facts.zones, zone as usize),

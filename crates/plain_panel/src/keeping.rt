@@ -36,7 +36,7 @@ impl Keeping {
         })
     }
 
-    /// One moment more, in the tick that began last before it.
+    /// Takes one moment more, in the tick that began last before it.
     pub fn step(&mut self, alloc: Global, tick: Tick, coming: &Coming) -> Result<(), NoMemory>
         requires valid { IsValid coming.now.site.now }
         requires stands { StandsForKeeping coming.now.site.now coming.now.kept.now

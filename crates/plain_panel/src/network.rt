@@ -1,6 +1,6 @@
 ghost use Rattle.std.specs.Prelude.{◌≡◌, ◌≤◌, ◌<◌, ◌-◌, [], ◌∷◌, List, ℕ, length};
 ghost use Rattle.tick_units.specs.declared.task.Task.TheVariants.{Hold as HoldTask, Link as LinkTask};
-ghost use Rattle.site_types.specs.declared.event.Event.TheVariants.{Link as LinkTold};
+ghost use Rattle.site_types.specs.declared.event.Event.TheVariants.{Link as LinkEvent};
 ghost use Rattle.site_types.specs.declared.retained.Retained.{Retained as RetainedOf};
 ghost use Rattle.site_types.specs.declared.site.Site.{Site as SiteOf};
 ghost use Rattle.site_types.specs.Done.{Done as DoneOf};
@@ -151,7 +151,7 @@ impl Network {
     }
 
     fn set_link(&mut self, link: u8, up: bool)
-        ensures stands { NetworkHears (LinkTold link up) self.old self.new }
+        ensures stands { NetworkHears (LinkEvent link up) self.old self.new }
         ensures panels { self.new.panels ≡ self.old.panels }
     {
         if link >= 1 && link <= 8 {

@@ -37,7 +37,7 @@ impl SiteState {
         })
     }
 
-    /// One moment more, in the tick that began last before it.
+    /// Takes one moment more, in the tick that began last before it.
     pub fn step(
         &mut self,
         alloc: Global,

@@ -86,7 +86,7 @@ impl Telling {
         faces_now(alloc, &self.keeping, site, kept, self.tick, &[])
     }
 
-    // One moment more.
+    // Takes one moment more.
     fn step(&mut self, alloc: Global, coming: &Coming) -> Result<(), NoMemory>
         requires valid { IsValid coming.now.site.now }
         requires stands { StandsForTelling coming.now.site.now coming.now.kept.now
@@ -228,7 +228,7 @@ fn made(
     })
 }
 
-// One step more, if there is one.
+// Puts a step behind the others, if there is one.
 fn push_some(steps: &mut Vec<Step>, step: Option<Step>) -> Result<(), NoMemory>
     ensures { OnOk result (steps.new.items ≡ steps.old.items ++ cons_option step []) }
 {

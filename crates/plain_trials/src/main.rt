@@ -1,6 +1,6 @@
 //! Trials over whole records against the plain program of the rules: lists of cases, printed with what is answered.
 //!
-//! They are read as those of the program `trials`, and stand by themselves since a plain program takes its time: a
+//! The cases are read as those of the program `trials`, and stand by themselves since a plain program takes its time: a
 //! program of the gate has two minutes.
 #![tactic(auto)]
 

@@ -37,7 +37,7 @@ impl Evidence<'_> {
             && other.stamp.0 <= answer.stamp.0
     }
 
-    /// Whether it is so of a detector, at most so many ticks before the answer.
+    /// Whether the other answer is such a second one of a detector, at most so many ticks before the answer.
     pub(crate) fn is_near(&self, within: u16, zone: usize, answer: &Answer, other: &Answer) -> bool
         ensures { result ≡ weighed is_near_by self.now within zone answer.now other.now }
     {
@@ -46,7 +46,8 @@ impl Evidence<'_> {
             && is_within(other.stamp, answer.stamp, within)
     }
 
-    /// Whether it is so, and after each cancelling of the zone that came before the answer.
+    /// Whether the other answer is such a second one and lies after each cancelling of the zone that came before the
+    /// answer.
     pub(crate) fn is_uncancelled(
         &self,
         within: u16,

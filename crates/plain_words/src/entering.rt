@@ -43,7 +43,7 @@ impl Entering {
         })
     }
 
-    /// One moment more, in the tick that began last before it, where some operations were done.
+    /// Takes one moment more, in the tick that began last before it, where some operations were done.
     pub fn step(
         &mut self,
         alloc: Global,
@@ -169,7 +169,7 @@ fn entries_kept(entries: u32, failed: bool) -> u32
     if failed { entries } else { 0 }
 }
 
-// One entry more, where there was one.
+// The entries so far with one more, where there was one.
 fn entries_then(entries: u32, enters: bool) -> Result<u32, NoMemory>
     ensures { IfOk result (λ count. count ≡ (if enters then entries + 1 else entries)) }
 {

@@ -12,7 +12,8 @@ use site_types::{Answer, Site};
 use std::alloc::Global;
 use tick_units::{NoMemory, Tick};
 
-/// One moment more for each of some panels, in the tick that began last before it, where some operations were done.
+/// Takes one moment more for each of some panels, in the tick that began last before it, where some operations were
+/// done.
 pub fn step_all(
     panels: &mut [Entering],
     alloc: Global,

@@ -2,7 +2,7 @@
 
 ghost use Rattle.std.specs.Prelude.{◌≡◌, option_copied, slice_get};
 ghost use Rattle.coincidence_rules.specs.Places.{detects as detects_so, is_call_point as is_call_point_so};
-ghost use Rattle.coincidence_rules.specs.Places.{is_detector as is_detector_so, is_manual as is_manual_so};
+ghost use Rattle.coincidence_rules.specs.Places.{is_detector as is_detector_by, is_manual as is_manual_so};
 ghost use Rattle.coincidence_rules.specs.Places.{is_of as is_of_zone, lies_in as lies_in_zone};
 ghost use Rattle.coincidence_rules.specs.Places.{partner_of as partner_of_zone, rule_of as rule_of_zone};
 
@@ -24,7 +24,7 @@ pub(crate) fn is_manual(site: &Site, point: u16) -> bool
 
 /// Whether a point is a detector.
 pub(crate) fn is_detector(site: &Site, point: u16) -> bool
-    ensures { result ≡ is_detector_so site.now point }
+    ensures { result ≡ is_detector_by site.now point }
 {
     detects(site.points.get(point as usize))
 }

@@ -15,7 +15,7 @@ pub(crate) struct Given<'a> {
 }
 
 impl<'a> Given<'a> {
-    /// The same with no more of the record than so many bytes.
+    /// What a program is given, with no more of the record than so many bytes.
     pub(crate) fn cut(self, bytes: usize) -> Given<'a> {
         let (record, _) = self.record.split_at(bytes.min(self.record.len()));
         Given { record, ..self }

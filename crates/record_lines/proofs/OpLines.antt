@@ -17,7 +17,7 @@ use Rattle.site_types.specs.declared.named.Thing.TheVariants.{Point as PointThin
 use Rattle.site_types.specs.declared.operation.Operation.{Operation}
 use Rattle.site_types.specs.declared.operation.Operation.TheVariants.{Mute, Override, Silence, Resound, Reset}
 use Rattle.site_types.specs.declared.operation.Operation.TheVariants.{Cancel as CancelZone, Disable as DisableItem}
-use Rattle.site_types.specs.declared.operation.Operation.TheVariants.{Enable as EnableItem, Test as TestZone}
+use Rattle.site_types.specs.declared.operation.Operation.TheVariants.{Enable as EnableItem, Test as SetTest}
 use Rattle.site_types.specs.declared.operation.Operation.TheVariants.{Untest as UntestZone, Delays, Clear}
 use Rattle.record_lines.specs.Events.{code_in, event_view, item_of, label_view, labelled, op_of, operation_of, output_in, point_in, zone_in}
 use Rattle.line_fields.specs.Fields.{field_count}
@@ -72,7 +72,7 @@ AreNamed site Reset = Unit {0}
 AreNamed site (CancelZone zone) = IsNamed site (ZoneThing zone)
 AreNamed site (DisableItem item) = IsNamed site (item_thing item)
 AreNamed site (EnableItem item) = IsNamed site (item_thing item)
-AreNamed site (TestZone zone) = IsNamed site (ZoneThing zone)
+AreNamed site (SetTest zone) = IsNamed site (ZoneThing zone)
 AreNamed site (UntestZone zone) = IsNamed site (ZoneThing zone)
 AreNamed site (Delays on) = Unit {0}
 AreNamed site Clear = Unit {0}
@@ -91,7 +91,7 @@ are_named site valid panel Reset has = tt
 are_named site valid panel (CancelZone zone) has = zone_there site valid _ zone has
 are_named site valid panel (DisableItem item) has = item_named site valid panel item has
 are_named site valid panel (EnableItem item) has = item_named site valid panel item has
-are_named site valid panel (TestZone zone) has = zone_there site valid _ zone has
+are_named site valid panel (SetTest zone) has = zone_there site valid _ zone has
 are_named site valid panel (UntestZone zone) has = zone_there site valid _ zone has
 are_named site valid panel (Delays on) has = tt
 are_named site valid panel Clear has = tt
@@ -120,7 +120,7 @@ action_fit site Reset named = refl
 action_fit site (CancelZone zone) named = named_fit site (codes "cancel") (ZoneThing zone) refl named
 action_fit site (DisableItem item) named = item_fit site (codes "disable") item refl named
 action_fit site (EnableItem item) named = item_fit site (codes "enable") item refl named
-action_fit site (TestZone zone) named = named_fit site (codes "test") (ZoneThing zone) refl named
+action_fit site (SetTest zone) named = named_fit site (codes "test") (ZoneThing zone) refl named
 action_fit site (UntestZone zone) named = named_fit site (codes "untest") (ZoneThing zone) refl named
 action_fit site (Delays on) named = fit_more 20 (codes "delays") (on_word on ∷ []) refl (fit_more 20 (on_word on) [] (word_of_on on).fit refl)
 action_fit site Clear named = refl
@@ -139,7 +139,7 @@ action_few site Reset = omega arith
 action_few site (CancelZone zone) = omega arith
 action_few site (DisableItem item) = omega (arith, item_few site item)
 action_few site (EnableItem item) = omega (arith, item_few site item)
-action_few site (TestZone zone) = omega arith
+action_few site (SetTest zone) = omega arith
 action_few site (UntestZone zone) = omega arith
 action_few site (Delays on) = omega arith
 action_few site Clear = omega arith
@@ -160,7 +160,7 @@ action_for Reset = Plain Reset
 action_for (CancelZone zone) = Cancel
 action_for (DisableItem item) = Disable (kind_for item)
 action_for (EnableItem item) = Enable (kind_for item)
-action_for (TestZone zone) = Test
+action_for (SetTest zone) = Test
 action_for (UntestZone zone) = Untest
 action_for (Delays on) = Plain (Delays on)
 action_for Clear = Plain Clear
@@ -201,7 +201,7 @@ action_back text site panel code (EnableItem (ZoneItem place)) has =
     read_action text 6 (codes "enable") (codes "zone") (ap (λ n. n + 1) has.count) (has.at 3) (has.at 4)
 action_back text site panel code (EnableItem (OutputItem place)) has =
     read_action text 6 (codes "enable") (codes "output") (ap (λ n. n + 1) has.count) (has.at 3) (has.at 4)
-action_back text site panel code (TestZone zone) has =
+action_back text site panel code (SetTest zone) has =
     read_action text 5 (codes "test") (name_text site (ZoneThing zone)) (ap (λ n. n + 1) has.count) (has.at 3) (has.at 4)
 action_back text site panel code (UntestZone zone) has =
     read_action text 5 (codes "untest") (name_text site (ZoneThing zone)) (ap (λ n. n + 1) has.count) (has.at 3) (has.at 4)
@@ -250,7 +250,7 @@ operation_back text site panel code (DisableItem item) has named =
     item_back site (λ i. DisableItem i) (field 5 text) item (item_at text site panel code (codes "disable") item has) named
 operation_back text site panel code (EnableItem item) has named =
     item_back site (λ i. EnableItem i) (field 5 text) item (item_at text site panel code (codes "enable") item has) named
-operation_back text site panel code (TestZone zone) has named = zone_back site (λ z. TestZone z) (field 4 text) zone (has.at 4) named
+operation_back text site panel code (SetTest zone) has named = zone_back site (λ z. SetTest z) (field 4 text) zone (has.at 4) named
 operation_back text site panel code (UntestZone zone) has named = zone_back site (λ z. UntestZone z) (field 4 text) zone (has.at 4) named
 operation_back text site panel code (Delays on) has named = refl
 operation_back text site panel code Clear has named = refl

@@ -10,9 +10,9 @@ use Rattle.site_types.specs.Valid.{IsOutput, IsPoint, IsValid, IsZone}
 use Rattle.site_types.specs.declared.site.Site.{Site}
 use Rattle.site_types.specs.declared.named.Thing.{Thing}
 use Rattle.site_types.specs.declared.named.Thing.TheVariants.{Point as PointThing, Zone as ZoneThing, Output as OutputThing}
-use Rattle.site_types.specs.declared.point.Point.{Point as PointOf}
-use Rattle.site_types.specs.declared.zone.Zone.{Zone as ZoneOf}
-use Rattle.site_types.specs.declared.output.Output.{Output as OutputOf}
+use Rattle.site_types.specs.declared.point.Point.{Point as PointPlan}
+use Rattle.site_types.specs.declared.zone.Zone.{Zone as ZonePlan}
+use Rattle.site_types.specs.declared.output.Output.{Output as OutputPlan}
 use Rattle.site_types.proofs.Finding.{thing_named_iff}
 use Rattle.record_lines.specs.Printed.{known_name, name_text}
 use Rattle.line_fields.proofs.PlainFields.{is_fit, name_fit}
@@ -34,21 +34,21 @@ named_from site valid thing name has form =
 pub at_place : {X : Type 0} (P : X → Type 0) (xs : List X) (place : ℕ) (x : X) → All P xs → slice_get xs place ≡ Some x → P x
 at_place P xs place x all at = subst P (get_or_from_slice_get xs place x x at) (all place x (slice_get_within xs place x at))
 
-pub point_named : (site : Site) → IsValid site → (place : ℕ) (point : PointOf) → slice_get site.points place ≡ Some point
+pub point_named : (site : Site) → IsValid site → (place : ℕ) (point : PointPlan) → slice_get site.points place ≡ Some point
     → IsNamed site (PointThing place)
 point_named site valid place point at =
-    named_from site valid (PointThing place) point.name.bytes (ap (option_map (λ (p : PointOf). p.name.bytes)) at)
+    named_from site valid (PointThing place) point.name.bytes (ap (option_map (λ (p : PointPlan). p.name.bytes)) at)
     (at_place (IsPoint site) site.points place point valid.forms.points at).name
 
-pub zone_named : (site : Site) → IsValid site → (place : ℕ) (zone : ZoneOf) → slice_get site.zones place ≡ Some zone → IsNamed site (ZoneThing place)
+pub zone_named : (site : Site) → IsValid site → (place : ℕ) (zone : ZonePlan) → slice_get site.zones place ≡ Some zone → IsNamed site (ZoneThing place)
 zone_named site valid place zone at =
-    named_from site valid (ZoneThing place) zone.name.bytes (ap (option_map (λ (z : ZoneOf). z.name.bytes)) at)
+    named_from site valid (ZoneThing place) zone.name.bytes (ap (option_map (λ (z : ZonePlan). z.name.bytes)) at)
     (at_place (IsZone site) site.zones place zone valid.forms.zones at).name
 
-pub output_named : (site : Site) → IsValid site → (place : ℕ) (output : OutputOf) → slice_get site.outputs place ≡ Some output
+pub output_named : (site : Site) → IsValid site → (place : ℕ) (output : OutputPlan) → slice_get site.outputs place ≡ Some output
     → IsNamed site (OutputThing place)
 output_named site valid place output at =
-    named_from site valid (OutputThing place) output.name.bytes (ap (option_map (λ (o : OutputOf). o.name.bytes)) at)
+    named_from site valid (OutputThing place) output.name.bytes (ap (option_map (λ (o : OutputPlan). o.name.bytes)) at)
     (at_place (IsOutput site) site.outputs place output valid.forms.outputs at).name
 
 -- ---- as the tests of events tell that they are there
@@ -67,19 +67,19 @@ point_there site valid place has =
     let there = there_within site.points place (ltb-true place (length site.points) has) in
     point_named site valid place there.0 there.1
 
-pub zone_there : (site : Site) → IsValid site → (test : ZoneOf → Bool) (place : ℕ) → is_some_with test (slice_get site.zones place) ≡ true
+pub zone_there : (site : Site) → IsValid site → (test : ZonePlan → Bool) (place : ℕ) → is_some_with test (slice_get site.zones place) ≡ true
     → IsNamed site (ZoneThing place)
 zone_there site valid test place has =
     let there = there_with test (slice_get site.zones place) has in
     zone_named site valid place there.0 there.1
 
-pub point_with : (site : Site) → IsValid site → (test : PointOf → Bool) (place : ℕ) → is_some_with test (slice_get site.points place) ≡ true
+pub point_with : (site : Site) → IsValid site → (test : PointPlan → Bool) (place : ℕ) → is_some_with test (slice_get site.points place) ≡ true
     → IsNamed site (PointThing place)
 point_with site valid test place has =
     let there = there_with test (slice_get site.points place) has in
     point_named site valid place there.0 there.1
 
-pub output_there : (site : Site) → IsValid site → (test : OutputOf → Bool) (place : ℕ) → is_some_with test (slice_get site.outputs place) ≡ true
+pub output_there : (site : Site) → IsValid site → (test : OutputPlan → Bool) (place : ℕ) → is_some_with test (slice_get site.outputs place) ≡ true
     → IsNamed site (OutputThing place)
 output_there site valid test place has =
     let there = there_with test (slice_get site.outputs place) has in

@@ -14,7 +14,7 @@ use Rattle.site_types.specs.declared.item.Item.{Item}
 use Rattle.site_types.specs.declared.item.Item.TheVariants.{Point as PointItem, Zone as ZoneItem, Output as OutputItem}
 use Rattle.site_types.specs.declared.operation.Operation.{Operation}
 use Rattle.site_types.specs.declared.operation.Operation.TheVariants.{Cancel as CancelZone, Disable as DisableItem}
-use Rattle.site_types.specs.declared.operation.Operation.TheVariants.{Enable as EnableItem, Test as TestZone}
+use Rattle.site_types.specs.declared.operation.Operation.TheVariants.{Enable as EnableItem, Test as SetTest}
 use Rattle.site_types.specs.declared.operation.Operation.TheVariants.{Untest as UntestZone}
 use Rattle.site_types.specs.declared.piece_state.PieceState.{PieceState}
 use Rattle.site_types.specs.declared.supply_kind.SupplyKind.{SupplyKind}
@@ -99,7 +99,7 @@ event_view (Confirmed output) = Confirmed output
 abbrev pub operation_of : Site → Action → List ℕ → Option Operation
 operation_of site (Plain operation) text = Some operation
 operation_of site Cancel text = option_map (λ zone. CancelZone zone) (zone_of site (field 4 text))
-operation_of site Test text = option_map (λ zone. TestZone zone) (zone_of site (field 4 text))
+operation_of site Test text = option_map (λ zone. SetTest zone) (zone_of site (field 4 text))
 operation_of site Untest text = option_map (λ zone. UntestZone zone) (zone_of site (field 4 text))
 operation_of site (Disable kind) text =
     option_map (λ item. DisableItem item) (item_of site kind (field 5 text))

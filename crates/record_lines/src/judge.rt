@@ -36,7 +36,7 @@ pub fn judge(site: &Site, so_far: &TicksSoFar, text: &[u8]) -> Result<Line, Why>
     }
 }
 
-// The same by the first word.
+// The line that a text stands for, told by its first word.
 fn judge_by_word(site: &Site, so_far: &TicksSoFar, text: &[u8]) -> Result<Line, Why>
     requires valid { IsValid site.now }
     requires short { length text.now ≤ 512 }

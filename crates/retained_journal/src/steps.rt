@@ -31,7 +31,7 @@ impl Journal {
         slot_place(!self.second) as u64
     }
 
-    // Whether there is a next cell and its gate may be open.
+    // Whether the log has a next cell, and its gate may be open.
     fn may_next_be_open(&self) -> bool
         ensures { IsTrue result ↔ ((self.now.cells < most_cells)
             × (self.now.cell_may_be_open ≡ true)) }

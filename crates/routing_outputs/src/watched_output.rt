@@ -13,7 +13,7 @@ impl WatchedOutput {
     ghost use Rattle.std.specs.Prelude.{◌≡◌};
     ghost use Rattle.routing_outputs.specs.WatchedOutputs.{is_late, turned};
 
-    /// The same output after a turn of a tick.
+    /// What is kept of the output after a turn of a tick.
     pub fn turn(self, now: Tick, on: bool) -> WatchedOutput
         ensures { result ≡ turned now on self }
     {

@@ -5,7 +5,7 @@ pub fn text_is_whole()
     ensures { TextIsWhole }
 {}
 
-/// So it is the text of the run's timeline, which is in form where the run can be told.
+/// What is written of a run is the text of the run's timeline, which is in form where the run can be told.
 pub fn timeline_is_of_run()
     ensures { TimelineIsOfRun }
 {}

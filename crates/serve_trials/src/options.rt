@@ -32,7 +32,7 @@ pub(crate) fn option<'a>(options: &'a str, word: &str) -> &'a str {
     ""
 }
 
-/// The same, or another where no part begins with it.
+/// What stands behind this word, or another text where no part begins with it.
 pub(crate) fn option_or<'a>(options: &'a str, word: &str, other: &'a str) -> &'a str {
     match option(options, word) {
         "" => other,

@@ -24,7 +24,7 @@ pub(crate) const SOUND: Outside = Outside {
 };
 
 impl Outside {
-    /// The same where this call of an edge fails.
+    /// An outside of which this call of an edge fails.
     pub(crate) fn failing(self, edge: Edge, number: u64) -> Outside {
         match edge {
             Edge::Keeper => Outside {

@@ -30,7 +30,7 @@ pub(crate) fn told(alloc: Global, trial: &Trial, called: &Called) -> Result<Stri
     lines.done()
 }
 
-/// The same on one line, of each answer the status and the lines of the body.
+/// What a trial brought, told on one line: of each answer the status and the lines of the body.
 pub(crate) fn told_short(alloc: Global, trial: &Trial, called: &Called) -> Result<String> {
     let mut lines = Lines::new(alloc);
     say_outcome(&mut lines, called);

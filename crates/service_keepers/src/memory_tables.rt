@@ -23,7 +23,7 @@ impl MemoryTables {
     ghost use Rattle.service_keepers.specs.Rows.{test_of};
     ghost use Rattle.service_keepers.specs.Tables.{has_test, last_day_of, no_tables, visit_numbered};
 
-    // Both empty.
+    // Two empty tables.
     pub(crate) fn new(alloc: Global) -> MemoryTables
         ensures { tables_of result ≡ no_tables }
     {

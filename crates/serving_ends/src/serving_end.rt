@@ -10,7 +10,7 @@ pub struct ServingEnd {
 }
 
 impl ServingEnd {
-    /// It ended by itself, with so many connections handed back.
+    /// The end of serving that ended by itself, with so many connections handed back.
     pub fn whole(served: u32) -> ServingEnd
         ensures { result ≡ record { served = served; failed = false } }
     {

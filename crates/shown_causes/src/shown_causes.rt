@@ -3,7 +3,7 @@ ghost use Rattle.site_types.specs.declared.retained.Retained.{Retained as Retain
 ghost use Rattle.site_types.specs.Valid.{IsValid};
 ghost use Rattle.panel_rules.specs.Moments.{TickBlock};
 ghost use Rattle.panel_rules.specs.Records.{AreOrdered};
-ghost use Rattle.blocked_points.specs.declared.done_operation.DoneOperation.{DoneOperation as DoneOf};
+ghost use Rattle.blocked_points.specs.declared.done_operation.DoneOperation.{DoneOperation as DoneOperationOf};
 ghost use Rattle.blocked_points.specs.Operations.{AreDoneInOrder};
 
 use crate::masks::set_zone;
@@ -38,7 +38,7 @@ impl ShownCauses {
     /// Before the first tick. The operations are all that were ever done, later ones among them.
     pub fn new(alloc: Global, site: &Site, timeline: &Timeline) -> Result<ShownCauses, NoMemory>
         requires { IsValid site.now }
-        ensures { IfOk result (λ causes. (kept : RetainedOf) (operations : List DoneOf)
+        ensures { IfOk result (λ causes. (kept : RetainedOf) (operations : List DoneOperationOf)
             → AreDoneInOrder operations → DoStepsRise timeline.now.steps
             → StandsFor site.now kept operations timeline.now [] causes) }
     {
@@ -118,7 +118,7 @@ impl ShownCauses {
         masks
     }
 
-    // The same for alarms by hand.
+    // The zones of which the panel has heard of an alarm by hand, as masks.
     fn calls_heard(&self, site: &Site, joined: &JoinedPanels, panel: u8) -> [u32; 8]
         requires site { IsValid site.now }
         requires panel { (1 ≤ panel) × (panel ≤ 8) }

@@ -23,14 +23,14 @@ impl PointStates {
     ghost use Rattle.std.specs.Prelude.{[], IfOk};
     ghost use Rattle.site_types.specs.declared.retained.Retained.{Retained as RetainedOf};
     ghost use Rattle.site_types.specs.Valid.{IsValid};
-    ghost use Rattle.blocked_points.specs.declared.done_operation.DoneOperation.{DoneOperation as DoneOf};
+    ghost use Rattle.blocked_points.specs.declared.done_operation.DoneOperation.{DoneOperation as DoneOperationOf};
     ghost use Rattle.blocked_points.specs.Operations.{AreDoneInOrder};
     ghost use Rattle.panel_rules.specs.Moments.{TickBlock};
     ghost use Rattle.signal_points.specs.States.{PointsStand, TakesTick, signals_now};
 
     /// Before the first tick.
     pub fn new(alloc: Global, site: &Site, kept: &Retained) -> Result<PointStates, NoMemory>
-        ensures { IfOk result (λ states. (operations : List DoneOf) → IsValid site.now
+        ensures { IfOk result (λ states. (operations : List DoneOperationOf) → IsValid site.now
             → AreDoneInOrder operations → PointsStand site.now kept.now operations [] states) }
     {
         let field = FieldStates::new(alloc, site)?;
@@ -56,7 +56,7 @@ impl PointStates {
 
     /// Whether a point signals now.
     pub fn signals(&self, site: &Site, place: usize) -> bool
-        ensures { (kept : RetainedOf) (operations : List DoneOf) (ticks : List TickBlock)
+        ensures { (kept : RetainedOf) (operations : List DoneOperationOf) (ticks : List TickBlock)
             → PointsStand site.now kept operations ticks self.now
             → result ≡ signals_now site.now kept operations ticks place }
     {

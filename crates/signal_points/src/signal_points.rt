@@ -1,6 +1,6 @@
 ghost use Rattle.std.specs.Prelude.{◌∷◌, List};
 ghost use Rattle.site_types.specs.declared.retained.Retained.{Retained as RetainedOf};
-ghost use Rattle.blocked_points.specs.declared.done_operation.DoneOperation.{DoneOperation as DoneOf};
+ghost use Rattle.blocked_points.specs.declared.done_operation.DoneOperation.{DoneOperation as DoneOperationOf};
 ghost use Rattle.panel_rules.specs.Moments.{TickBlock};
 ghost use Rattle.signal_points.specs.Looks.{AreRunsAfter};
 ghost use Rattle.signal_points.specs.States.{PointsStand, signals_now};
@@ -32,7 +32,7 @@ impl SignalPoints {
 
     /// Before the first tick no point signals. The operations are all that were ever done, later ones among them.
     pub fn new(alloc: Global, site: &Site, kept: &Retained) -> Result<SignalPoints, NoMemory>
-        ensures { IfOk result (λ signals. (operations : List DoneOf) → IsValid site.now
+        ensures { IfOk result (λ signals. (operations : List DoneOperationOf) → IsValid site.now
             → AreDoneInOrder operations → StandsFor site.now kept.now operations [] signals) }
     {
         let states = PointStates::new(alloc, site, kept)?;
@@ -57,7 +57,7 @@ impl SignalPoints {
 
     /// For each point since when it has signalled, and when it last did for a whole round.
     pub fn runs(&self) -> &[PointRun]
-        ensures { (site : SiteOf) (kept : RetainedOf) (operations : List DoneOf)
+        ensures { (site : SiteOf) (kept : RetainedOf) (operations : List DoneOperationOf)
             (ticks : List TickBlock) → StandsFor site kept operations ticks self.now
             → AreSignalRuns site kept operations ticks result.now }
     {
@@ -67,7 +67,7 @@ impl SignalPoints {
 
 // Looks at each point, whether it signals in this tick.
 fn look_at_each(runs: &mut [PointRun], states: &PointStates, site: &Site, round: u64, now: Tick)
-    ensures { (kept : RetainedOf) (operations : List DoneOf) (ticks : List TickBlock)
+    ensures { (kept : RetainedOf) (operations : List DoneOperationOf) (ticks : List TickBlock)
         → PointsStand site.now kept operations ticks states.now → AreRunsAfter round now.0
         (λ point. signals_now site.now kept operations ticks point) runs.old runs.new }
 {

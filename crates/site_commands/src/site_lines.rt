@@ -28,7 +28,7 @@ pub fn stop_with<K: Sink>(stop: &Stop, out: &mut K) -> Outcome
     stop_naming("refused site", stop, out)
 }
 
-/// The same where it is the old one of two sites that isn't at hand.
+/// Ends a command whose old site, of two, isn't at hand, with the line that says why.
 pub fn stop_with_old<K: Sink>(stop: &Stop, out: &mut K) -> Outcome
     ensures says { Says (stop_status stop.now) (old_stop_text stop.now) (K.written out.old)
         (K.written out.new) result.status }

@@ -30,7 +30,7 @@ pub fn wrong_value(alloc: Global, place: &Place, key: Key) -> SiteRefusal
     }
 }
 
-/// The same of an item of a list.
+/// An item of the list at the key has another kind, or isn't of its form.
 pub fn wrong_item(alloc: Global, place: &Place, key: Key, item: usize) -> SiteRefusal
     ensures { IsSaid result (Some (is_wrong_kind (item_text place.now (key_word key) item))) }
 {
@@ -70,7 +70,7 @@ pub fn out_of_range(alloc: Global, place: &Place, key: Key, number: i64) -> Site
     }
 }
 
-/// The same of an item of a list.
+/// The number that is an item of the list at the key is outside its range.
 pub fn item_out_of_range(
     alloc: Global,
     place: &Place,

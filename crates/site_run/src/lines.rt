@@ -1,7 +1,7 @@
 //! Single lines of the text.
 
 ghost use Rattle.std.specs.Prelude.{◌≡◌, ◌≤◌, length};
-ghost use Rattle.face_text.specs.Timelines.{opening_line as opening_text, tick_line as tick_text};
+ghost use Rattle.face_text.specs.Timelines.{opening_line as line_of_opening, tick_line as tick_text};
 
 use arrayvec::ArrayString;
 use itoa::Buffer;
@@ -9,7 +9,7 @@ use site_types::Site;
 
 /// The first line of a run.
 pub fn opening_line(site: &Site) -> ArrayString<64>
-    ensures text { result.bytes ≡ opening_text site.now }
+    ensures text { result.bytes ≡ line_of_opening site.now }
     ensures short { length result.bytes ≤ 64 }
 {
     let mut number = Buffer::new();

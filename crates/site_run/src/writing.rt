@@ -4,7 +4,7 @@ ghost use Rattle.std.specs.Prelude.{◌≡◌, ◌++◌, false, length, not, OnE
 ghost use Rattle.std.specs.List.{list_any};
 ghost use Rattle.face_text.specs.Faces.{has_some, same_faces};
 ghost use Rattle.face_text.specs.Holding.{Puts};
-ghost use Rattle.face_text.specs.Timelines.{faces_text, opening_line as opening_words};
+ghost use Rattle.face_text.specs.Timelines.{faces_text, opening_line as line_of_opening};
 ghost use Rattle.panel_edges.specs.Contents.{Grows, GrowsByFront};
 ghost use Rattle.panel_edges.specs.Faults.{HasCause};
 ghost use Rattle.site_run.specs.Pages.{has_answers as has_answers_told, is_told as is_told_of};
@@ -27,10 +27,10 @@ pub fn write_opening<K: Sink>(
     out: &mut K,
 ) -> Result<(), Failed>
     requires { length before.now ≡ length after.now }
-    ensures ok { OnOk result (Grows (K.written out.old) (K.written out.new) (opening_words site.now
+    ensures ok { OnOk result (Grows (K.written out.old) (K.written out.new) (line_of_opening site.now
         ++ faces_text site.now before.now after.now)) }
     ensures err { OnErr result
-        (GrowsByFront (K.written out.old) (K.written out.new) (opening_words site.now
+        (GrowsByFront (K.written out.old) (K.written out.new) (line_of_opening site.now
         ++ faces_text site.now before.now after.now)) }
     ensures cause { HasCause (K.write_faults out.old) (K.write_faults out.new) result }
 {

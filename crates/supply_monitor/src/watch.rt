@@ -1,5 +1,5 @@
 ghost use Rattle.std.specs.Prelude.{◌≡◌, ◌∷◌, List, false};
-ghost use Rattle.site_types.specs.declared.supply_kind.SupplyKind.{SupplyKind as Kind};
+ghost use Rattle.site_types.specs.declared.supply_kind.SupplyKind.{SupplyKind as KindOf};
 ghost use Rattle.supply_monitor.specs.Supply.{AllBefore, Call, Reported, Turned};
 ghost use Rattle.supply_monitor.specs.Stands.{Keeps};
 ghost use Rattle.supply_monitor.specs.Watches.{IsSound};
@@ -27,7 +27,7 @@ impl Watch {
 
     /// Looks at the supply in a tick.
     pub fn turn(self, tick: Tick, wait: u16) -> Watch
-        ensures keeps { (kind : Kind) (calls : List Call) → Keeps wait kind calls self
+        ensures keeps { (kind : KindOf) (calls : List Call) → Keeps wait kind calls self
             → AllBefore tick.0 calls → Keeps wait kind (Turned tick.0 ∷ calls) result }
         ensures sound { result.bad ≡ false → IsSound result }
     {

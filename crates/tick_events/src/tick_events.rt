@@ -19,7 +19,7 @@ pub struct TickEvents {
 }
 
 impl TickEvents {
-    /// Those of the lines of a record.
+    /// The events of the lines of a record, tick by tick.
     ///
     /// # Errors
     ///

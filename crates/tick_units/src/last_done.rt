@@ -31,7 +31,7 @@ impl LastDone {
         }
     }
 
-    /// It was done again in this tick, which isn't before the latest.
+    /// Notes that the operation was done again in this tick, which isn't before the latest.
     pub fn raise(&mut self, at: Tick)
         ensures { self.new ≡ last_after at self.old }
     {

@@ -44,7 +44,7 @@ impl Order {
         ensures missing { (seat : SeatOf)
             → (result ≡ Err (BadOrder.Missing seat)) ↔ IsFirstMissing panels seats.now seat }
 
-        // The same as a function, for those that read orders.
+        // The refusal as a function of the seats, for those that read orders.
         ensures answer { MatchResult result (λ _. order_fault panels seats.now ≡ None)
             (λ fault. order_fault panels seats.now ≡ Some fault) }
     {
@@ -156,7 +156,7 @@ fn missing_seat(seats: &[Seat], panels: u8) -> Option<Seat>
     sought_seat(seats, panels)
 }
 
-// The same, sought for: here alone room is made for the canonical order.
+// The first seat of the canonical order that isn't among these. Room for that order is made here alone.
 #[cold]
 fn sought_seat(seats: &[Seat], panels: u8) -> Option<Seat>
     requires { IsPanelCount panels }

@@ -14,7 +14,7 @@ impl Members {
     ghost use Rattle.std.specs.Prelude.{IfOk};
     ghost use Rattle.zone_signals.specs.Kinds.{AreMembers};
 
-    /// Those of the zone at a place.
+    /// The members of the zone at a place.
     pub fn of(alloc: Global, site: &Site, zone: usize) -> Result<Members, NoMemory>
         ensures { IfOk result (λ members. AreMembers site.now zone members.places.items) }
     {
@@ -42,7 +42,7 @@ fn is_point_of(site: &Site, zone: usize, place: usize) -> bool
 ghost use Rattle.std.specs.Prelude.{IfOk};
 ghost use Rattle.zone_signals.specs.Kinds.{AreAllMembers};
 
-/// Those of each zone.
+/// The members of each zone.
 pub fn all_members(alloc: Global, site: &Site) -> Result<Vec<Members>, NoMemory>
     ensures { IfOk result (λ members. AreAllMembers site.now members.items) }
 {

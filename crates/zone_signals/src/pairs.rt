@@ -28,7 +28,7 @@ pub fn pair_held(
         || pair_held_across(known, zone, partner, kind, both, later)
 }
 
-// The same for a pair with the zone's partner.
+// Whether a point of a zone and one of its partner make a pair: each held for a round, and one of them late enough.
 fn pair_held_across(
     known: &Known,
     zone: usize,

@@ -63,7 +63,8 @@ pub fn point_ends(known: &Known, zone: usize) -> bool
     one_held(known, zone, Kind::Any, start - 1)
 }
 
-/// One detector of a zone of type A. Its signal counts from a tick later than others that end now.
+/// Whether the signal of a single detector of a zone of type A ends now. It counts from a tick later than others that
+/// end now.
 pub fn detector_ends(known: &Known, zone: usize, verify: u16) -> bool
     ensures { (within : ℕ) → IsTypeA known.now.site.now zone verify within
         → TellsEnd DetectorSignals known.now zone

@@ -10,7 +10,7 @@ use crate::known::Known;
 use crate::signals::{detector_ends, detectors_end, pair_ends, point_ends, second_ends};
 use site_types::{Rule, Zone};
 
-/// One that counts from the beginning of a round.
+/// Whether a signal of the zone ends now that counts from the beginning of a round.
 pub fn round_ends(known: &Known, zone: usize, plan: &Zone) -> bool
     ensures { slice_get known.now.site.now.zones zone ≡ Some plan.now
         → TellsEnd RoundSignals known.now zone
@@ -24,7 +24,7 @@ pub fn round_ends(known: &Known, zone: usize, plan: &Zone) -> bool
     }
 }
 
-/// One of a single detector.
+/// Whether a signal of a single detector of the zone ends now.
 pub fn alone_ends(known: &Known, zone: usize, plan: &Zone) -> bool
     ensures { slice_get known.now.site.now.zones zone ≡ Some plan.now
         → TellsEnd DetectorSignals known.now zone
@@ -38,7 +38,7 @@ pub fn alone_ends(known: &Known, zone: usize, plan: &Zone) -> bool
     }
 }
 
-/// One of a second point, for outputs.
+/// Whether a signal of a second point of the zone, which its outputs wait for, ends now.
 pub fn release_ends(known: &Known, zone: usize, plan: &Zone) -> bool
     ensures { slice_get known.now.site.now.zones zone ≡ Some plan.now
         → TellsEnd SecondSignals known.now zone

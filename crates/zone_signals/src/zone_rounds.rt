@@ -36,7 +36,8 @@ pub fn has_held_after(
     false
 }
 
-/// Whether two points of the zone are, the round of the second one after a later tick.
+/// Whether two points of the zone are held for a round that begins after a tick, the round of the second one after a
+/// later tick.
 pub fn has_two_held_after(
     site: &Site,
     members: &[usize],

@@ -78,7 +78,7 @@ impl ZoneSignals {
         settled.signal()
     }
 
-    /// The same of signals for outputs.
+    /// From which tick on a zone has a signal for outputs: of those that may be due the least.
     pub fn settled_out(&self, site: &Site, zone: usize) -> Option<u64>
         ensures least { TellsLeast EndedSignalsOut site.now self.now zone result }
         ensures due { TellsWhenDue IsDueOut site.now self.now zone result }
@@ -91,7 +91,7 @@ impl ZoneSignals {
         }
     }
 
-    /// The same of signals of manual call points.
+    /// From which tick on a zone has a signal of a manual call point: of those that may be due the least.
     pub fn settled_by_hand(&self, zone: usize) -> Option<u64>
         ensures least { (site : SiteOf) → TellsLeast EndedCalls site self.now zone result }
         ensures due { (site : SiteOf) → TellsWhenDue IsDueByHand site self.now zone result }

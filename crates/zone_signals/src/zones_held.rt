@@ -11,7 +11,7 @@ use crate::known::Known;
 use crate::members::Members;
 use crate::zone_rounds::{has_detector_since, has_held_after, has_two_held_after};
 
-/// Whether one is held for a round that begins after a tick.
+/// Whether a point of the zone is held for a round that begins after a tick.
 pub fn one_held(known: &Known, zone: usize, kind: Kind, after: u64) -> bool
     ensures { TellsOfPoints (λ kept done moments. HasHeldAfter known.now.site.now kept done moments
         kind None zone after known.now.tick) known.now result }
@@ -27,7 +27,8 @@ pub fn one_held(known: &Known, zone: usize, kind: Kind, after: u64) -> bool
     )
 }
 
-/// Whether two are, the round of the second one after a later tick.
+/// Whether two points of the zone are held for a round that begins after a tick, the round of the second one after a
+/// later tick.
 pub fn two_held(known: &Known, zone: usize, kind: Kind, after: u64, later: u64) -> bool
     ensures { TellsOfPoints (λ kept done moments. HasTwoHeldAfter known.now.site.now kept done
         moments kind zone after later known.now.tick) known.now result }
