@@ -1,4 +1,4 @@
-ghost use Rattle.std.specs.Prelude.{◌≡◌, ◌≢◌, ◌<◌, ◌+◌, ◌*◌, ◌||◌, ℕ, false, true};
+ghost use Rattle.std.specs.Prelude.{◌≡◌, ◌≢◌, ◌↔◌, ◌<◌, ◌+◌, ◌*◌, ◌||◌, ℕ, false, IsTrue};
 ghost use Rattle.site_types.specs.Bits.{has_bit};
 ghost use Rattle.marker_table.specs.Equations.{values_of};
 
@@ -31,7 +31,7 @@ impl Values {
 
     /// Whether no marker is true.
     pub fn is_none(&self) -> bool
-        ensures { result ≡ true → (marker : ℕ) → values_of self.now marker ≡ false }
+        ensures { IsTrue result ↔ ((marker : ℕ) → values_of self.now marker ≡ false) }
     {
         let [a, b, c, d, e, f, g, h] = self.words;
         (a | b | c | d | e | f | g | h) == 0

@@ -4,7 +4,7 @@ use Rattle.cause_effect.proofs.asked.asked_by.Goals as goal
 
 pub returns-then-is_none : goal.returns-then-is_none
 returns-then-is_none c =
-    no_marker_asks (values_of c.args.values.now) c.args.outputs.now (c.is_none.ensures c.if-is_none.true)
+    no_marker_asks (values_of c.args.values.now) c.args.outputs.now (c.is_none.ensures.0 c.if-is_none.true)
 
 pub returns : goal.returns
 returns c =
