@@ -17,8 +17,8 @@ use Rattle.face_text.specs.Faces.{same_faces}
 use Rattle.face_text.specs.Timelines.{text_of}
 use Rattle.panel_rules.specs.Moments.{Moment, Began, Happened, Turned, Kept, tick_of, up_to}
 use Rattle.panel_rules.specs.Operations.{Request, Answered, Reply as ReplyOf, Busy, Denied as DeniedOf}
-use Rattle.panel_rules.specs.Operations.{Waiting as WaitingOf, Already as AlreadyOf, Store as StoreOf, WasDone, requests}
-use Rattle.panel_rules.specs.Operations.{operations}
+use Rattle.panel_rules.specs.Operations.{Waiting as WaitingOf, Already as AlreadyOf, Store as StoreOf}
+use Rattle.panel_rules.specs.Operations.{WasDone, operations, requests}
 use Rattle.panel_rules.specs.Batches.{kept_after}
 use Rattle.panel_rules.specs.Faces.{face_with}
 

@@ -51,8 +51,8 @@ fn evaluated(site: &Site, facts: &Facts, values: &Values) -> Values
 // Whether enough of a marker's terms hold.
 fn is_met(site: &Site, facts: &Facts, values: &Values, marker: &Marker) -> bool
     requires { IsValid site.now }
-    ensures { result ≡ meets marker.now.combine (holds_over site.now facts.now (values_of values.now))
-        marker.now.terms }
+    ensures { result ≡ meets marker.now.combine
+        (holds_over site.now facts.now (values_of values.now)) marker.now.terms }
 {
     let terms = marker.terms.as_slice();
     match marker.combine {

@@ -4,7 +4,7 @@ ghost use Rattle.panel_edges.specs.Crashes.{Stays};
 ghost use Rattle.panel_edges.specs.Faults.{HasCause};
 ghost use Rattle.site_types.specs.Changes.{changed_by};
 ghost use Rattle.retained_journal.specs.declared.open_refusal.OpenRefusal.TheVariants.{Damaged};
-ghost use Rattle.retained_journal.specs.Cells.{cell_changes, is_next as counts_next, wrong_in_cell as wrong_byte_of_cell};
+ghost use Rattle.retained_journal.specs.Cells.{cell_changes, is_next as counts_next};
 ghost use Rattle.retained_journal.specs.Fields.{Agrees};
 ghost use Rattle.retained_journal.specs.Places.{bytes_of_cell, cell_place as place_of_cell, most_cells};
 ghost use Rattle.retained_journal.specs.Places.{whole_bytes};

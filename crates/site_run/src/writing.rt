@@ -27,11 +27,10 @@ pub fn write_opening<K: Sink>(
     out: &mut K,
 ) -> Result<(), Failed>
     requires { length before.now ≡ length after.now }
-    ensures ok { OnOk result (Grows (K.written out.old) (K.written out.new) (line_of_opening site.now
-        ++ faces_text site.now before.now after.now)) }
-    ensures err { OnErr result
-        (GrowsByFront (K.written out.old) (K.written out.new) (line_of_opening site.now
-        ++ faces_text site.now before.now after.now)) }
+    ensures ok { OnOk result (Grows (K.written out.old) (K.written out.new)
+        (line_of_opening site.now ++ faces_text site.now before.now after.now)) }
+    ensures err { OnErr result (GrowsByFront (K.written out.old) (K.written out.new)
+        (line_of_opening site.now ++ faces_text site.now before.now after.now)) }
     ensures cause { HasCause (K.write_faults out.old) (K.write_faults out.new) result }
 {
     let mut held = Held::new();
