@@ -1,5 +1,5 @@
 -- Alarms that go on in a plain zone leave all that is kept as it is, and confirm and release that zone.
-use Rattle.std.proofs.Common.{◌≡◌, ◌≢◌, ◌⊎◌, inl, inr, nat_lt, ℕ, ◌+◌, ◌<◌, ◌≤◌, ◌^◌, ◌==◌, ◌&&◌, ◌||◌, Bool, true}
+use Rattle.std.proofs.Common.{◌≡◌, ◌≢◌, inl, inr, ℕ, ◌+◌, ◌<◌, ◌≤◌, ◌^◌, ◌==◌, ◌&&◌, ◌||◌, Bool, true}
 use Rattle.std.proofs.Common.{false, not, List, [], ◌∷◌, ◌++◌, Some, length, max, min, slice_get, get_or, bit_and}
 use Rattle.std.proofs.Common.{if◌then◌else◌, refl, sym, ◌∙◌, ap, subst, arith}
 use Rattle.std.specs.Int.{w8, bit_not}
@@ -14,7 +14,7 @@ use Rattle.site_types.specs.Done.{Done}
 use Rattle.std.proofs.lemmas.Bool.Decides.{eqb_tells}
 use Rattle.site_types.proofs.Done.{lt_tells}
 use Rattle.answer_lanes.proofs.MaskBits.{set_below}
-use Rattle.site_types.proofs.Masks.{has_bit-above, has_bit-and, has_bit-not, has_bit-zero}
+use Rattle.site_types.proofs.Masks.{has_bit-and, has_bit-not, has_bit-zero}
 use Rattle.answer_lanes.specs.declared.answer_group.AnswerGroup.{AnswerGroup}
 use Rattle.answer_lanes.specs.declared.run.Run.{Run}
 use Rattle.answer_lanes.specs.Points.{answer_at, mask_if}
@@ -27,7 +27,7 @@ use Rattle.coincidence.specs.declared.decide.Decide.{Decide}
 use Rattle.coincidence.specs.declared.judgement.Judgement.{Judgement}
 use Rattle.coincidence.specs.declared.plain_zone.PlainZone.{PlainZone}
 use Rattle.coincidence.specs.declared.point_watch.PointWatch.{PointWatch}
-use Rattle.coincidence.specs.GoingOn.{AreInZone, ConfirmsAgain, IsInZone, telling_of}
+use Rattle.coincidence.specs.GoingOn.{AreGoingOn, ConfirmsAgain, IsFrontInZone, IsInZone, telling_of}
 use Rattle.site_types.specs.declared.heard.Heard.TheVariants.{Alarm}
 use Rattle.answer_lanes.specs.Places.{has_place}
 use Rattle.coincidence.specs.Places.{GoesOnFrom}
@@ -37,7 +37,7 @@ use Rattle.coincidence.specs.Observations.{Judges}
 use Rattle.coincidence.specs.Parts.{StaysNoted, switch_at}
 use Rattle.coincidence.specs.PlainZones.{IsKnown, IsOfPoint, IsSaidAt}
 use Rattle.coincidence.specs.Premises.{MayTake}
-use Rattle.coincidence.specs.Resting.{IsWithinEight, TellsChanging}
+use Rattle.coincidence.specs.Resting.{IsWithinEight}
 use Rattle.coincidence.specs.Stands.{CanObserve, CanTake, DecidesFor, Fits}
 use Rattle.coincidence.proofs.FindingIs.{HasBit, finding_by}
 use Rattle.coincidence.proofs.PlainAlarms.{plain_alarm_is}
@@ -83,12 +83,12 @@ item_observed decide run k small can =
     (answer_at run.first (run.taken + k)) may (item_there run k small))
 
 -- of an answer of which the bits tell: it can be observed, and where its point stands
-pub told_by_bit : (decide : Decide) (run : Run AnswerGroup) (bits bit : ℕ) → IsWithinEight run → TellsChanging decide run bits
+pub told_by_bit : (decide : Decide) (run : Run AnswerGroup) (bits bit : ℕ) → IsWithinEight run → AreGoingOn decide run bits
     → has_bit bits bit ≡ true → CanTake decide (items_of answer_at run)
     → CanObserve decide (answer_at run.first (run.taken + bit))
     × ((answer_at run.first (run.taken + bit)).point ≡ run.first.point + (run.taken + bit))
-told_by_bit decide run bits bit within tells on can =
-    let small = tells.within bit on in
+told_by_bit decide run bits bit within going on can =
+    let small = going.within bit on in
     (item_observed decide run bit small can, point_of run bit within small)
 
 -- ---- an alarm that goes on
@@ -227,35 +227,80 @@ cleared_smaller byte bit rest is was cleared =
     let apart : rest ≢ byte = λ e. (let at = ap (λ n. has_bit n bit) e in cc) in
     omega (arith, least, apart)
 
--- those whose bits are no longer left are found to be of points in a zone
-pub record AreFoundOn (decide : Decide) (run : Run AnswerGroup) (zone : ℕ) (bits left : ℕ) : Type 0 where
-  pub found : (k : ℕ) → has_bit bits k ≡ true → has_bit left k ≡ false → IsInZone decide (answer_at run.first (run.taken + k)) zone
-  pub among : (k : ℕ) → has_bit left k ≡ true → has_bit bits k ≡ true
-  pub fits : left < 2 ^ 8
+-- only that bit was
+only_cleared : (byte bit rest : ℕ) → byte < 2 ^ 8 → ((k : ℕ) → k < 8 → k ≢ bit → has_bit rest k ≡ has_bit byte k) → (k : ℕ)
+    → has_bit byte k ≡ true → has_bit rest k ≡ false → k ≡ bit
+only_cleared byte bit rest below others k is gone = elim (eqb_tells k bit) [
+  | inl same ↦ same.1
+  | inr other ↦ absurd (let at = others k (set_below byte k below is) other.1 in cc)
+]
 
-pub found_on_none : (decide : Decide) (run : Run AnswerGroup) (zone : ℕ) (bits : ℕ) → bits < 2 ^ 8 → AreFoundOn decide run zone bits bits
-found_on_none decide run zone bits below = record { found = λ k is no'. absurd (cc); among = λ k is. is; fits = below }
+module _ {decide : Decide} {run : Run AnswerGroup} {zone : ℕ} where
+  pub none_in_front : (bits : ℕ) → IsFrontInZone decide run zone bits bits
+  none_in_front bits = record {
+    in_zone = λ k is no'. absurd (cc);
+    tail = record { among = λ k is. is; before_them = λ k j is no' other. absurd (cc); most = omega arith };
+  }
 
-module _ {decide : Decide} {run : Run AnswerGroup} {zone : ℕ} {bits left : ℕ} (h : AreFoundOn decide run zone bits left) where
-  pub found_on_next : (bit rest : ℕ) → IsInZone decide (answer_at run.first (run.taken + bit)) zone → rest < 2 ^ 8
-      → ((k : ℕ) → k < 8 → k ≢ bit → has_bit rest k ≡ has_bit left k) → has_bit rest bit ≡ false → AreFoundOn decide run zone bits rest
-  found_on_next bit rest on below others this = record {
-    found = λ k is gone. by k is gone (eqb_tells k bit);
-    among = λ k is. h.among k (sym (others k (set_below rest k below is) (λ e. (let at = ap (has_bit rest) e in cc))) ∙ is);
-    fits = below;
+  -- the lowest bit of a byte is cleared, and its answer is of a point in the zone
+  pub one_in_front : (bits bit rest : ℕ) → bits < 2 ^ 8 → has_bit bits bit ≡ true → ((k : ℕ) → k < bit → has_bit bits k ≡ false)
+      → IsInZone decide (answer_at run.first (run.taken + bit)) zone → rest < bits → rest < 2 ^ 8
+      → ((k : ℕ) → k < 8 → k ≢ bit → has_bit rest k ≡ has_bit bits k) → has_bit rest bit ≡ false → IsFrontInZone decide run zone bits rest
+  one_in_front bits bit rest below set lowest on less fits others this = record {
+    in_zone = λ k is gone.
+        subst (λ n. IsInZone decide (answer_at run.first (run.taken + n)) zone) (sym (only_cleared bits bit rest below others k is gone)) on;
+    tail = record {
+      among = λ k is. was k is;
+      before_them = λ k j is gone other.
+          let here = only_cleared bits bit rest below others k is gone in
+          let from = not_below j (was j other) in
+          let apart = differs j other in
+          omega (arith, here, from, apart);
+      most = omega (arith, less);
+    };
   }
     where
-      by : (k : ℕ) → has_bit bits k ≡ true → has_bit rest k ≡ false → ((k == bit) ≡ true) × (k ≡ bit) ⊎ (((k == bit) ≡ false) × (k ≢ bit))
-          → IsInZone decide (answer_at run.first (run.taken + k)) zone
-      by k is gone (inl same) = subst (λ n. IsInZone decide (answer_at run.first (run.taken + n)) zone) (sym same.1) on
-      by k is gone (inr other) = under (lt_tells k 8)
-        where
-          under : ((nat_lt k 8 ≡ true) × (k < 8)) ⊎ ((nat_lt k 8 ≡ false) × (8 ≤ k)) → IsInZone decide (answer_at run.first (run.taken + k)) zone
-          under (inl less) = h.found k is (sym (others k less.1 other.1) ∙ gone)
-          under (inr above) = h.found k is (has_bit-above 8 left k h.fits above.1)
+      differs : (k : ℕ) → has_bit rest k ≡ true → k ≢ bit
+      differs k is e = let at = ap (has_bit rest) e in cc
 
-  pub all_found_on : left ≡ 0 → AreInZone decide run bits zone
-  all_found_on none k small is = h.found k is (ap (λ m. has_bit m k) none ∙ has_bit-zero k)
+      was : (k : ℕ) → has_bit rest k ≡ true → has_bit bits k ≡ true
+      was k is = sym (others k (set_below rest k fits is) (differs k is)) ∙ is
+
+      not_below : (k : ℕ) → has_bit bits k ≡ true → bit ≤ k
+      not_below k has = elim (lt_tells k bit) [
+        | inl under ↦ absurd (let no' = lowest k under.1 in cc)
+        | inr above ↦ above.1
+      ]
+
+  -- those before the last ones of the last ones
+  pub more_in_front : (bits left rest : ℕ) → IsFrontInZone decide run zone bits left → IsFrontInZone decide run zone left rest
+      → IsFrontInZone decide run zone bits rest
+  more_in_front bits left rest first second = record {
+    in_zone = λ k is gone. in_one k is gone (has_bit left k) refl;
+    tail = record {
+      among = λ k is. first.tail.among k (second.tail.among k is);
+      before_them = λ k j is gone other. before k j is gone other (has_bit left k) refl;
+      most = let a = first.tail.most in let b = second.tail.most in omega (arith, a, b);
+    };
+  }
+    where
+      in_one : (k : ℕ) → has_bit bits k ≡ true → has_bit rest k ≡ false → (b : Bool) → has_bit left k ≡ b
+          → IsInZone decide (answer_at run.first (run.taken + k)) zone
+      in_one k is gone true at = second.in_zone k at gone
+      in_one k is gone false at = first.in_zone k is at
+
+      before : (k j : ℕ) → has_bit bits k ≡ true → has_bit rest k ≡ false → has_bit rest j ≡ true → (b : Bool) → has_bit left k ≡ b → k < j
+      before k j is gone other true at = second.tail.before_them k j at gone other
+      before k j is gone other false at = first.tail.before_them k j is at (second.tail.among j other)
+
+-- fewer of them go on too
+pub fewer_go_on : (decide : Decide) (run : Run AnswerGroup) (bits left : ℕ) → AreGoingOn decide run bits
+    → ((k : ℕ) → has_bit left k ≡ true → has_bit bits k ≡ true) → AreGoingOn decide run left
+fewer_go_on decide run bits left going among = record {
+  within = λ k is. going.within k (among k is);
+  marked = λ k small is. going.marked k small (among k is);
+  since = going.since;
+}
 
 -- a byte of which another one takes all bits has no bits beside those
 pub bits_among : (byte others k : ℕ) → others < 2 ^ 8 → bit_and byte (bit_not w8 others) ≡ 0 → k < 8 → has_bit byte k ≡ true → has_bit others k ≡ true

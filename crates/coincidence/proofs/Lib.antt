@@ -17,6 +17,7 @@ pub mod PlaceSets
 pub mod Resting
 pub mod RunItems
 pub mod Passed
+pub mod ZoneParts
 -- operations: what is kept after one, by its kind, and that those of other panels change nothing
 pub mod AppliedOperation
 pub mod OperationKinds

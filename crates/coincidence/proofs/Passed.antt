@@ -18,7 +18,7 @@ use Rattle.site_types.proofs.Done.{lt_tells}
 use Rattle.site_types.proofs.Masks.{has_bit-zero}
 use Rattle.coincidence.specs.Changes.{FindsNext, KeepsOthers, PutsFindings, TakesAnswers, TakesAnswerRun}
 use Rattle.coincidence.specs.Stands.{CanTake}
-use Rattle.coincidence.specs.GoingOn.{AllConfirmAgain, telling_of}
+use Rattle.coincidence.specs.GoingOn.{ConfirmsAgain, telling_of}
 use Rattle.coincidence.specs.Resting.{IsFoundAt, IsPlainAt, IsWithinEight, LeavesPoint, TellsChanging}
 use Rattle.coincidence.proofs.Resting.{finds_at_rest, takes_one_at_rest, tells_none_at_rest}
 use Rattle.coincidence.proofs.RunItems.{all_before, before, behind, none_before, one_more, parts_at}
@@ -269,42 +269,35 @@ still_run old run lane after first changing plain tells none put =
           (sym (put ∙ ap (λ n. with_put lane (map (finding_at first) (range_with_len run.taken n))) count)) (all_found h none);
     }
 
--- of a run of which each answer changes nothing or goes on the findings are told in one step
-pub going_run : (old : Decide) (run : Run AnswerGroup) (lane after : LaneState Finding) (first : FindingGroup) (changing zones : ℕ)
-    → ((k : ℕ) → finding_at first k ≡ telling_of zones (answer_at run.first k)) → TellsChanging old run changing → AllConfirmAgain old run changing zones
-    → after ≡ with_put lane (map (finding_at first) (range_with_len run.taken run.count))
-    → TakesAnswerRun old run lane old after
-going_run old run lane after first changing zones told_is tells again put =
-    let end = run.taken + run.count in
-    let count : run.count ≡ end - run.taken = omega arith in
-    let none : run.taken - run.taken ≡ 0 = omega arith in
-    let nothing : [] ≡ map (finding_at first) (range_with_len run.taken (run.taken - run.taken)) =
-    ap (λ n. map (finding_at first) (range_with_len run.taken n)) (sym none) in
-    let begins : AreDone old old run lane lane first run.taken run.taken = record {
-      taken = subst (λ xs. TakesAnswers old xs old) (sym (none_before run)) (takes_none old);
-      put = subst (λ xs. PutsFindings old xs lane (with_put lane (told old old run lane lane first run.taken run.taken))) (sym (none_before run))
-          (subst (λ fs. PutsFindings old [] lane (with_put lane fs)) nothing (subst (PutsFindings old [] lane) (put_none lane) (puts_none old lane)));
+-- of a part of a run of which each answer changes nothing or goes on the findings are told in one step, after those before it
+pub going_part : (old : Decide) (run : Run AnswerGroup) (lane held after : LaneState Finding) (first : FindingGroup) (changing place end zones : ℕ)
+    → ((k : ℕ) → finding_at first k ≡ telling_of zones (answer_at run.first k)) → TellsChanging old run changing
+    → run.taken ≤ place → place ≤ end → end ≤ run.taken + run.count
+    → ((k : ℕ) → place ≤ run.taken + k → run.taken + k < end → has_bit changing k ≡ true → ConfirmsAgain old (answer_at run.first (run.taken + k)) zones)
+    → TakesAnswers old (before run place) old → PutsFindings old (before run place) lane held
+    → after ≡ with_put held (map (finding_at first) (range_with_len place (end - place)))
+    → TakesAnswers old (before run end) old × PutsFindings old (before run end) lane after
+going_part old run lane held after first changing place end zones told_is tells least fits most again takes puts put =
+    let none : place - place ≡ 0 = omega arith in
+    let nothing : [] ≡ told old old run lane held first place place = ap (λ n. map (finding_at first) (range_with_len place n)) (sym none) in
+    let begins : AreDone old old run lane held first place place = record {
+      taken = takes;
+      put = subst (PutsFindings old (before run place) lane) (put_none held ∙ ap (with_put held) nothing) puts;
     } in
-    let done = pass old old run lane lane first run.taken run.count run.taken end refl (omega arith) (omega arith)
+    let done = pass old old run lane held first place (end - place) place end (omega (arith, fits)) least (omega arith)
     (λ k le less.
-    let at : run.taken + (k - run.taken) ≡ k = omega (arith, le) in
-    subst (IsStill old old run lane lane first run.taken) at (each (k - run.taken) (omega (arith, le, less)))) begins in
-    record {
-      taken = subst (λ xs. TakesAnswers old xs old) (all_before run end refl) done.taken;
-      put = subst (PutsFindings old (items_of answer_at run) lane)
-          (sym (put ∙ ap (λ n. with_put lane (map (finding_at first) (range_with_len run.taken n))) count))
-          (subst (λ xs. PutsFindings old xs lane (with_put lane (told old old run lane lane first run.taken end))) (all_before run end refl) done.put);
-    }
+    let at : run.taken + (k - run.taken) ≡ k = omega (arith, least, le) in
+    subst (IsStill old old run lane held first place) at
+    (by (k - run.taken) (omega (arith, least, le, less, most)) (omega (arith, at, le)) (omega (arith, at, less)) (has_bit changing (k - run.taken)) refl)) begins in
+    (done.taken, subst (PutsFindings old (before run end) lane) (sym put) done.put)
   where
-    by : (k : ℕ) → k < run.count → (b : Bool) → has_bit changing k ≡ b → IsStill old old run lane lane first run.taken (run.taken + k)
-    by k small true is =
+    by : (k : ℕ) → k < run.count → place ≤ run.taken + k → run.taken + k < end → (b : Bool) → has_bit changing k ≡ b
+        → IsStill old old run lane held first place (run.taken + k)
+    by k small from to true is =
         let item = answer_at run.first (run.taken + k) in
-        let one = again k small is in
+        let one = again k from to is in
         (one.taken, subst (FindsNext old item) (sym (told_is (run.taken + k))) one.found)
-    by k small false is =
+    by k small from to false is =
         let item = answer_at run.first (run.taken + k) in
         let leaves_point = tells.left k small is in
         (takes_one_at_rest old item leaves_point, subst (FindsNext old item) (sym (told_is (run.taken + k))) (tells_none_at_rest old item leaves_point zones))
-
-    each : (k : ℕ) → k < run.count → IsStill old old run lane lane first run.taken (run.taken + k)
-    each k small = by k small (has_bit changing k) refl

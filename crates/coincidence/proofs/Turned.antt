@@ -108,7 +108,7 @@ still_can can follows = record {
 }
 
 -- the second list may be taken behind the first
-can_front : (a : Decide) (xs ys : List Answer) → CanTake a (xs ++ ys) → CanTake a xs
+pub can_front : (a : Decide) (xs ys : List Answer) → CanTake a (xs ++ ys) → CanTake a xs
 can_front a xs ys can = still_can can (λ site kept panel done taken. may_front xs ys)
 
 can_behind : (a b : Decide) (xs ys : List Answer) → TakesAnswers a xs b → CanTake a (xs ++ ys) → CanTake b ys
@@ -123,7 +123,7 @@ can_behind a b xs ys takes can = record {
 }
 
 -- there is room behind the findings of some answers
-room_behind : (decide : Decide) (xs : List Answer) (l m : LaneState Finding) (all more : ℕ) → CanTake decide xs → PutsFindings decide xs l m
+pub room_behind : (decide : Decide) (xs : List Answer) (l m : LaneState Finding) (all more : ℕ) → CanTake decide xs → PutsFindings decide xs l m
     → HasRoom l all → length xs + more ≤ all → HasRoom m more
 room_behind decide xs l m all more can puts room fits =
     let found = findings_after can.site can.kept can.panel can.done can.taken xs in

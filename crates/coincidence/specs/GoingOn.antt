@@ -1,5 +1,6 @@
 -- Alarms that go on in a plain zone: each of them counts, and changes nothing of what is kept of its point.
-use Rattle.std.specs.Prelude.{◌≡◌, [], ◌∷◌, ◌+◌, ◌<◌, ℕ, List, Some, slice_get, slice_index_or, true}
+use Rattle.std.specs.Prelude.{◌≡◌, [], ◌∷◌, ◌+◌, ◌<◌, ◌≤◌, ℕ, List, Some, false, slice_get}
+use Rattle.std.specs.Prelude.{slice_index_or, true}
 use Rattle.site_types.specs.declared.heard.Heard.TheVariants.{Alarm}
 use Rattle.site_types.specs.declared.retained.Retained.{Retained}
 use Rattle.site_types.specs.declared.site.Site.{Site}
@@ -14,6 +15,7 @@ use Rattle.coincidence_rules.specs.Counted.{is_alarm, is_silent}
 use Rattle.coincidence_rules.specs.declared.finding.Finding.{Finding}
 use Rattle.coincidence.specs.declared.decide.Decide.{Decide}
 use Rattle.coincidence.specs.declared.point_watch.PointWatch.{PointWatch}
+use Rattle.coincidence.specs.declared.zone_part.ZonePart.{ZonePart}
 use Rattle.coincidence.specs.declared.zone_watch.ZoneWatch.{ZoneWatch}
 use Rattle.coincidence.specs.Changes.{FindsNext, TakesAnswers}
 use Rattle.coincidence.specs.Places.{GoesOnFrom}
@@ -29,16 +31,29 @@ abbrev pub AreMarkedAlarms : Decide → Run AnswerGroup → ℕ → Type 0
 AreMarkedAlarms decide run bits =
     (k : ℕ) → k < run.count → has_bit bits k ≡ true → IsMarkedAlarm decide (answer_at run.first (run.taken + k))
 
+-- they are, and their tick isn't before the latest one in which a point was marked
+pub record AreGoingOn (decide : Decide) (run : Run AnswerGroup) (bits : ℕ) : Type 0 where
+  pub within : (k : ℕ) → has_bit bits k ≡ true → k < run.count
+  pub marked : AreMarkedAlarms decide run bits
+  pub since : decide.since.0 ≤ run.first.stamp.0
+
 -- an answer is of a point in a zone
 pub record IsInZone (decide : Decide) (answer : Answer) (zone : ℕ) : Type 0 where
   pub watch : PointWatch
   pub read : watch ≡ slice_index_or decide.points answer.point watch
   pub own : zone ≡ watch.zone
 
--- so are all answers of a run of which the bits of a byte tell
-abbrev pub AreInZone : Decide → Run AnswerGroup → ℕ → ℕ → Type 0
-AreInZone decide run bits zone =
-    (k : ℕ) → k < run.count → has_bit bits k ≡ true → IsInZone decide (answer_at run.first (run.taken + k)) zone
+-- of the bits of a byte some are the last ones
+pub record AreLastOf (bits last : ℕ) : Type 0 where
+  pub among : (k : ℕ) → has_bit last k ≡ true → has_bit bits k ≡ true
+  pub before_them : (k j : ℕ) → has_bit bits k ≡ true → has_bit last k ≡ false → has_bit last j ≡ true → k < j
+  pub most : last ≤ bits
+
+-- of the answers of a run of which the bits of a byte tell, those before the last ones are of points in a zone
+pub record IsFrontInZone (decide : Decide) (run : Run AnswerGroup) (zone bits last : ℕ) : Type 0 where
+  pub in_zone : (k : ℕ) → has_bit bits k ≡ true → has_bit last k ≡ false
+      → IsInZone decide (answer_at run.first (run.taken + k)) zone
+  pub tail : AreLastOf bits last
 
 -- from an answer's tick on the alarms of its point go on
 abbrev pub IsToBeMarked : Decide → Answer → Type 0
@@ -70,7 +85,9 @@ pub record ConfirmsAgain (decide : Decide) (answer : Answer) (zones : ℕ) : Typ
   pub taken : TakesAnswers decide (answer ∷ []) decide
   pub found : FindsNext decide answer (telling_of zones answer)
 
--- so do all answers of a run of which the bits of a byte tell
-abbrev pub AllConfirmAgain : Decide → Run AnswerGroup → ℕ → ℕ → Type 0
-AllConfirmAgain decide run bits zones =
-    (k : ℕ) → k < run.count → has_bit bits k ≡ true → ConfirmsAgain decide (answer_at run.first (run.taken + k)) zones
+-- of the answers of a run of which the bits of a byte tell, those before the last ones do so
+pub record ConfirmsPart (decide : Decide) (run : Run AnswerGroup) (bits : ℕ) (part : ZonePart) : Type 0 where
+  pub again : (k : ℕ) → has_bit bits k ≡ true → has_bit part.behind k ≡ false
+      → ConfirmsAgain decide (answer_at run.first (run.taken + k)) part.zones
+  pub tail : AreLastOf bits part.behind
+  pub fewer : part.behind < bits

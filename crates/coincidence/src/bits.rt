@@ -38,3 +38,16 @@ pub fn lowest_bit(byte: u8) -> u8
 {
     byte.trailing_zeros() as u8
 }
+
+/// The lowest bit of a byte that is set, or this number where none is.
+pub fn lowest_bit_or(byte: u8, otherwise: u8) -> u8
+    ensures set { 0 < byte → has_bit byte result ≡ true }
+    ensures none { (k : ℕ) → k < result → has_bit byte k ≡ false }
+    ensures otherwise { byte ≡ 0 → result ≡ otherwise }
+{
+    if byte == 0 {
+        otherwise
+    } else {
+        lowest_bit(byte)
+    }
+}

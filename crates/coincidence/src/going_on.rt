@@ -1,47 +1,87 @@
-//! Alarms of a run that go on in one plain zone: they change nothing of what is kept, and all mean the same.
+//! Alarms of a run that go on in plain zones: they change nothing of what is kept, and those of one zone mean the same.
 
-ghost use Rattle.std.specs.Prelude.{◌≡◌, [], ◌∷◌, ◌<◌, IfSome, true};
+ghost use Rattle.std.specs.Prelude.{◌≡◌, [], ◌∷◌, ◌<◌, true};
 ghost use Rattle.answer_lanes.specs.Points.{answer_at};
 ghost use Rattle.answer_lanes.specs.Runs.{items_of};
 
-use crate::bits::{lowest_bit, one_bit};
+use crate::bits::{lowest_bit, lowest_bit_or, one_bit};
 use crate::decide::Decide;
 use crate::plain_zone::PlainZone;
-use answer_lanes::{AnswerGroup, Run};
+use crate::rules::telling_group;
+use crate::zone_part::ZonePart;
+use answer_lanes::{AnswerGroup, FindingGroup, Lane, Run};
 use site_types::{Answer, Heard, with_bit_8};
 use tick_units::Tick;
 
 impl Decide {
-    ghost use Rattle.coincidence.specs.GoingOn.{AllConfirmAgain, AreInZone, AreMarkedAlarms, IsToBeMarked};
+    ghost use Rattle.coincidence.specs.Changes.{CanTakeAnswerRun, TakesAnswerRun};
+    ghost use Rattle.coincidence.specs.GoingOn.{AreGoingOn, AreMarkedAlarms, ConfirmsPart, IsFrontInZone, IsToBeMarked};
     ghost use Rattle.coincidence.specs.GoingOn.{MarksGoingOn};
     ghost use Rattle.coincidence.specs.Resting.{IsWithinEight, TellsChanging};
     ghost use Rattle.coincidence.specs.PlainZones.{IsOfPoint};
     ghost use Rattle.coincidence.specs.Stands.{CanTake};
 
-    // The zones that are confirmed by those answers of a run within a group of eight of which the bits tell, where all
-    // of them are alarms that go on in one plain zone.
-    pub(crate) fn zones_going_on(&self, run: &Run<AnswerGroup>, changing: u8) -> Option<u32>
+    // Whether those answers of a run within a group of eight of which the bits tell are all alarms that go on.
+    pub(crate) fn all_go_on(&self, run: &Run<AnswerGroup>, changing: u8) -> bool
+        requires within { IsWithinEight run.now }
+        requires tells { TellsChanging self.now run.now changing }
+        ensures { result ≡ true → AreGoingOn self.now run.now changing }
+    {
+        if run.first.stamp.0 < self.since.0 {
+            return false;
+        }
+        changing & !self.marked_bits(run) == 0
+    }
+
+    // Puts the findings of the answers of a run within a group of eight, where those that may change what is kept of
+    // their points, by these bits, are all alarms that go on: in one step for each zone.
+    pub(crate) fn tell_going_on(
+        &self,
+        run: &Run<AnswerGroup>,
+        changing: u8,
+        findings: &mut Lane<FindingGroup>,
+    )
         requires some { 0 < changing }
         requires within { IsWithinEight run.now }
         requires tells { TellsChanging self.now run.now changing }
-        requires can { CanTake self.now (items_of answer_at run.now) }
-        ensures { IfSome result (AllConfirmAgain self.now run.now changing) }
+        requires going { AreGoingOn self.now run.now changing }
+        requires can { CanTakeAnswerRun self.now run.now findings.old }
+        ensures { TakesAnswerRun self.now run.now findings.old self.now findings.new }
     {
-        if run.first.stamp.0 < self.since.0 {
-            return None;
+        let mut place = run.taken;
+        let mut left = changing;
+        while left != 0 {
+            let part = self.part_going_on(run, left);
+            let end = run.taken + lowest_bit_or(part.behind, run.count);
+            findings.put_run(Run {
+                first: telling_group(&run.first, part.zones),
+                taken: place,
+                count: end - place,
+            });
+            place = end;
+            left = part.behind;
         }
-        if changing & !self.marked_bits(run) != 0 {
-            return None;
-        }
-        let bit = lowest_bit(changing);
+    }
+
+    // Of those alarms of a run within a group of eight of which the bits tell: the zones that the first one confirms,
+    // and the bits of the others from the first one on that lies in another zone.
+    fn part_going_on(&self, run: &Run<AnswerGroup>, bits: u8) -> ZonePart
+        requires some { 0 < bits }
+        requires within { IsWithinEight run.now }
+        requires going { AreGoingOn self.now run.now bits }
+        requires can { CanTake self.now (items_of answer_at run.now) }
+        ensures { ConfirmsPart self.now run.now bits result }
+    {
+        let bit = lowest_bit(bits);
         let point = self
             .points
             .at(run.first.point as usize + (run.taken + bit) as usize);
-        if !self.are_in_zone(run, changing, point.zone) {
-            return None;
-        }
         let zone = &self.zones[point.zone as usize];
-        Some(one_bit(zone.number, true))
+        let others = with_bit_8(bits, bit, false);
+        ZonePart {
+            zones: one_bit(zone.number, true),
+            behind: self.bits_behind(run, others, point.zone),
+        }
     }
 
     // Which of the answers of a run within a group of eight are alarms of points whose alarms go on, a bit for each.
@@ -53,23 +93,24 @@ impl Decide {
         self.going_on.eight_from(first) & run.first.alarms_from(run.taken)
     }
 
-    // Whether those answers of a run within a group of eight of which the bits tell are all of points in this zone.
-    fn are_in_zone(&self, run: &Run<AnswerGroup>, changing: u8, zone: u16) -> bool
+    // Of the bits that tell of alarms of a run within a group of eight: those from the first one on whose point isn't
+    // in this zone.
+    fn bits_behind(&self, run: &Run<AnswerGroup>, bits: u8, zone: u16) -> u8
         requires within { IsWithinEight run.now }
-        requires tells { TellsChanging self.now run.now changing }
+        requires going { AreGoingOn self.now run.now bits }
         requires can { CanTake self.now (items_of answer_at run.now) }
-        ensures { result ≡ true → AreInZone self.now run.now changing zone }
+        ensures { IsFrontInZone self.now run.now zone bits result }
     {
         let first = run.first.point as usize + run.taken as usize;
-        let mut left = changing;
+        let mut left = bits;
         while left != 0 {
             let bit = lowest_bit(left);
             if self.points.at(first + bit as usize).zone != zone {
-                return false;
+                return left;
             }
             left = with_bit_8(left, bit, false);
         }
-        true
+        left
     }
 
     // Marks the point of an alarm in a zone of which this is said, if its alarms go on from now on.

@@ -8,7 +8,7 @@ ghost use Rattle.answer_lanes.specs.Runs.{HoldsItems, all_items};
 use crate::bits::{first_bits, lowest_bit};
 use crate::decide::Decide;
 use crate::gathering::{gather, gather_at};
-use crate::rules::{plain_group, telling_group};
+use crate::rules::plain_group;
 use answer_lanes::{AnswerGroup, FindingGroup, Lane, Run};
 use site_types::with_bit_8;
 
@@ -43,7 +43,8 @@ impl Decide {
         }
     }
 
-    // Takes the answers of a run within a group of eight: in one step where all change nothing of what is kept.
+    // Takes the answers of a run within a group of eight: in one step, or one for each zone, where all change nothing
+    // of what is kept.
     #[inline(always)]
     fn take_eight(&mut self, run: &Run<AnswerGroup>, findings: &mut Lane<FindingGroup>)
         requires within { IsWithinEight run.now }
@@ -59,13 +60,10 @@ impl Decide {
             });
             return;
         }
-        match self.zones_going_on(run, changing) {
-            Some(zones) => findings.put_run(Run {
-                first: telling_group(&run.first, zones),
-                taken: run.taken,
-                count: run.count,
-            }),
-            None => self.take_changing(run, changing, findings),
+        if self.all_go_on(run, changing) {
+            self.tell_going_on(run, changing, findings);
+        } else {
+            self.take_changing(run, changing, findings);
         }
     }
 
