@@ -5,6 +5,8 @@ pub mod Places
 -- a loop: its points as they are found, and what it has in a valid site
 pub mod Filling
 pub mod Lines
+-- which loops have a fault
+pub mod Faults
 -- what a turn puts into the lane
 pub mod Lanes
 -- groups of points that follow one another, on a cable with nothing wrong

@@ -23,7 +23,7 @@ none_of test a (suc n) k none low high =
       | inr other ↦ none_of test (a + 1) n k both.1 (omega arith) (omega arith)
     ]
 
-any_false : (test : ℕ → Bool) (a n : ℕ) → ((k : ℕ) → a ≤ k → k < a + n → test k ≡ false) → list_any test (range_with_len a n) ≡ false
+pub any_false : (test : ℕ → Bool) (a n : ℕ) → ((k : ℕ) → a ≤ k → k < a + n → test k ≡ false) → list_any test (range_with_len a n) ≡ false
 any_false test a zero none = refl
 any_false test a (suc n) none =
     let here : test a ≡ false = none a (omega arith) (omega arith) in

@@ -15,7 +15,7 @@ use Rattle.loop_poller.specs.Asked.{status_on}
 use Rattle.loop_poller.specs.Cables.{CableStands}
 use Rattle.loop_poller.specs.Groups.{AreGroups}
 use Rattle.loop_poller.specs.Points.{ArePoints}
-use Rattle.loop_poller.specs.Calls.{Call, told_cable, told_point}
+use Rattle.loop_poller.specs.Calls.{Call, told_broken, told_cable, told_point, told_shorted}
 
 -- a loop of the panel
 pub record LineStands (site : Site) (panel line : ℕ) (cable : Cable) (polled : PolledLine) : Type 0 where
@@ -40,20 +40,30 @@ pub record AreStates (site : Site) (points : ℕ → PointState) (states : List 
   pub size : length states ≡ length site.points
   pub each : (point : ℕ) → point < length site.points → slice_index_or states point Quiet ≡ points point
 
--- a poller stands for a panel of a site, and for what it was told, the newest first
-pub record StandsFor (site : Site) (panel : ℕ) (calls : List Call) (poller : Poller) : Type 0 where
+-- a poller asks the points of a panel of a site, by what it was told, the newest first
+pub record AsksFor (site : Site) (panel : ℕ) (calls : List Call) (poller : Poller) : Type 0 where
   pub valid : IsValid site
   pub format : poller.profile.format ≡ site.format
   pub lines : (place : ℕ) (line : PolledLine) → slice_get poller.lines place ≡ Some line
       → LineStands site panel (place + 1) (told_cable calls (place + 1)) line
   pub states : AreStates site (told_point calls) poller.states
 
--- a poller stands for some panel of a site
+-- the masks of a poller have the loops whose cable has a fault, by what it was told
+pub record KnowsFaults (site : Site) (panel : ℕ) (calls : List Call) (poller : Poller) : Type 0 where
+  pub broken : poller.broken ≡ told_broken site panel calls
+  pub shorted : poller.shorted ≡ told_shorted site panel calls
+
+-- a poller stands for a panel of a site, and for what it was told, the newest first
+pub record StandsFor (site : Site) (panel : ℕ) (calls : List Call) (poller : Poller) : Type 0 where
+  pub asks : AsksFor site panel calls poller
+  pub faults : KnowsFaults site panel calls poller
+
+-- a poller asks the points of some panel of a site, whatever its masks have
 pub record StandsForSome (poller : Poller) : Type 0 where
   pub site : Site
   pub panel : ℕ
   pub calls : List Call
-  pub stands : StandsFor site panel calls poller
+  pub asks : AsksFor site panel calls poller
 
 -- a poller has a state for this point
 abbrev pub HasPoint : Poller → ℕ → Type 0

@@ -11,7 +11,8 @@
 //! [`Poller::new`] alone takes memory, and goes over the site's points once for each loop. Of each eight addresses
 //! of a loop it keeps six bytes besides the points: the place of the first one and how many there are, where they
 //! stand one behind the other; of each point of the site its state, and two bits that tell it too.
-//! [`Poller::turn`] looks at 32 addresses, whatever the site's size.
+//! [`Poller::turn`] looks at 32 addresses, whatever the site's size. Which loops have a fault is kept as two masks: a
+//! report on a cable brings one bit of each up to date, and [`Poller::broken`] and [`Poller::shorted`] look at no loop.
 #![tactic(auto)]
 
 mod cables;

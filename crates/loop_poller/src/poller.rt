@@ -4,13 +4,13 @@ ghost use Rattle.site_types.specs.declared.site.Site.{Site as SiteOf};
 ghost use Rattle.site_types.specs.Valid.{IsValid};
 ghost use Rattle.loop_poller.specs.Asked.{status_on};
 ghost use Rattle.site_types.specs.Things.{loop_of};
-ghost use Rattle.loop_poller.specs.Calls.{Call, Reported, Cabled, told_cable};
+ghost use Rattle.loop_poller.specs.Calls.{Call, Reported, Cabled, told_broken, told_cable, told_shorted};
 
 use crate::point_states::PointStates;
 use crate::polled_line::PolledLine;
 use answer_lanes::{AnswerGroup, Lane};
 use isolators::LineStatus;
-use site_types::{PieceState, PointState, Profile, Site};
+use site_types::{PieceState, PointState, Profile, Site, with_bit_8};
 use std::alloc::Global;
 use tick_units::{NoMemory, Tick};
 
@@ -20,6 +20,9 @@ pub struct Poller {
     profile: Profile,
     lines: [PolledLine; 4],
     states: PointStates,
+    /// The loops whose cable has an open piece, and those with a short one, bit `loop - 1` each.
+    broken: u8,
+    shorted: u8,
 }
 
 impl Poller {
@@ -42,6 +45,8 @@ impl Poller {
             profile: site.profile(),
             lines,
             states,
+            broken: 0,
+            shorted: 0,
         })
     }
 
@@ -64,6 +69,9 @@ impl Poller {
     {
         let polled = &mut self.lines[line as usize - 1];
         polled.set_piece(piece, state);
+        let status = polled.status();
+        self.broken = with_bit_8(self.broken, line - 1, status.broken);
+        self.shorted = with_bit_8(self.shorted, line - 1, status.shorted);
     }
 
     /// What is wrong with the cable of a loop, 1 to 4. Nothing is, where the panel has no such loop.
@@ -74,6 +82,22 @@ impl Poller {
             → result ≡ status_on (loop_of site panel line) (told_cable calls line) }
     {
         self.lines[line as usize - 1].status()
+    }
+
+    /// The loops whose cable has an open piece, bit `loop - 1` each.
+    pub fn broken(&self) -> u8
+        ensures { (site : SiteOf) (panel : ℕ) (calls : List Call)
+            → StandsFor site panel calls self.now → result ≡ told_broken site panel calls }
+    {
+        self.broken
+    }
+
+    /// The loops whose cable has a short piece, bit `loop - 1` each.
+    pub fn shorted(&self) -> u8
+        ensures { (site : SiteOf) (panel : ℕ) (calls : List Call)
+            → StandsFor site panel calls self.now → result ≡ told_shorted site panel calls }
+    {
+        self.shorted
     }
 
     /// Puts the answers of a tick: at most 32, in order of loop, then address.

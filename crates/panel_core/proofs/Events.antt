@@ -175,7 +175,7 @@ point_panel site kept before system event point state points plan parts h has is
     let stands =
     panel_read site kept before system plan.panel parts h r.member
     (found ∙ ap (λ (p : PointPlan). get_or system.panels.items (p.panel - 1) parts) (sym read)) in
-    let size = stands.polls.states.size in
+    let size = stands.polls.asks.states.size in
     let inside = lt_from point (length site.points) had in
     record { read = r; stands = stands; within = omega (arith, size, inside) }
 

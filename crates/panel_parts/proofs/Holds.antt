@@ -1,7 +1,6 @@
 -- What a turn of Hold takes and is told.
 use mathlib.Core.Path.{fun_ext}
-use Rattle.std.proofs.Common.{◌≡◌, ℕ, zero, suc, ◌+◌, ◌<◌, ◌≤◌, List, [], ◌∷◌, Bool, false, refl, sym, ◌∙◌, ap, subst, arith}
-use Rattle.std.specs.Prelude.{slice_index_or}
+use Rattle.std.proofs.Common.{◌≡◌, ℕ, ◌+◌, ◌≤◌, List, ◌∷◌, Bool, refl, sym, ◌∙◌, ap, subst, arith}
 use Rattle.tick_units.specs.Lane.{LaneState, after_turn}
 use Rattle.tick_units.specs.declared.task.Task.TheVariants.{Hold}
 use Rattle.site_types.specs.declared.retained.Retained.{Retained}
@@ -12,7 +11,7 @@ use Rattle.site_types.proofs.Masks.{mask_same}
 use Rattle.isolators.specs.declared.line_status.LineStatus.{LineStatus}
 use Rattle.loop_poller.specs.Asked.{status_on}
 use Rattle.site_types.specs.Things.{loop_of}
-use Rattle.loop_poller.specs.Calls.{told_cable}
+use Rattle.loop_poller.specs.Calls.{told_broken, told_cable, told_shorted}
 use Rattle.coincidence_rules.specs.declared.finding.Finding.{Finding}
 use Rattle.panel_conditions.specs.declared.hold.Hold.{Hold as HoldPart}
 use Rattle.panel_conditions.specs.declared.outside.Outside.{Outside}
@@ -35,15 +34,6 @@ use Rattle.hold_calls.proofs.Steps.{held_findings}
 use Rattle.hold_calls.proofs.TurnsMade.{own_turn, turns_tick}
 use Rattle.panel_parts.proofs.Panels.{facts_left, outputs_left}
 
--- four flags as the bits of four loops
-four : (test : ℕ → Bool) (a b c d : Bool) → a ≡ test 1 → b ≡ test 2 → c ≡ test 3 → d ≡ test 4 → (k : ℕ) → k < 4
-    → slice_index_or (a ∷ b ∷ c ∷ d ∷ []) k false ≡ test (k + 1)
-four test a b c d p q r s zero l = p
-four test a b c d p q r s (suc zero) l = q
-four test a b c d p q r s (suc (suc zero)) l = r
-four test a b c d p q r s (suc (suc (suc zero))) l = s
-four test a b c d p q r s (suc (suc (suc (suc k)))) l = absurd (omega arith)
-
 -- what stands besides missing points, part by part
 outside_same : (supply broken shorted silent links unconfirmed a b c d : ℕ) → supply ≡ a → broken ≡ b → shorted ≡ c → unconfirmed ≡ d
     → (let one : Outside = record { supply = supply; broken = broken; shorted = shorted; silent = silent; links = links; unconfirmed = unconfirmed } in
@@ -65,26 +55,19 @@ module _ (site : Site) (panel : ℕ) (before : List Moment) where
       ap (status_on (loop_of site panel line)) (fun_ext (λ piece. cable_told site panel line piece before (is_line line low high)))
 
   -- one flag of each loop, as a mask
-  flags_are : (flag : LineStatus → Bool) (one two three last : LineStatus) (mask : ℕ) → one ≡ status_told 1 → two ≡ status_told 2 → three ≡ status_told 3
-      → last ≡ status_told 4 → mask ≡ mask_of 4 (λ k. slice_index_or (flag one ∷ flag two ∷ flag three ∷ flag last ∷ []) k false)
-      → mask ≡ mask_of 4 (λ k. flag (loop_status (k + 1)))
-  flags_are flag one two three last mask a b c d e =
-      e
-      ∙ mask_same 4 (λ k. slice_index_or (flag one ∷ flag two ∷ flag three ∷ flag last ∷ []) k false) (λ k. flag (loop_status (k + 1)))
-      (four (λ line. flag (loop_status line)) (flag one) (flag two) (flag three) (flag last)
-      (ap flag (a ∙ told_is 1 (omega arith) (omega arith))) (ap flag (b ∙ told_is 2 (omega arith) (omega arith)))
-      (ap flag (c ∙ told_is 3 (omega arith) (omega arith))) (ap flag (d ∙ told_is 4 (omega arith) (omega arith))))
+  flags_are : (flag : LineStatus → Bool) → mask_of 4 (λ k. flag (status_told (k + 1))) ≡ mask_of 4 (λ k. flag (loop_status (k + 1)))
+  flags_are flag =
+      mask_same 4 (λ k. flag (status_told (k + 1))) (λ k. flag (loop_status (k + 1)))
+      (λ k small. ap flag (told_is (k + 1) (omega arith) (omega (arith, small))))
 
-  pub outside_is : (one two three last : LineStatus) (supply broken shorted silent links unconfirmed late : ℕ) → one ≡ status_told 1 → two ≡ status_told 2 → three ≡ status_told 3
-      → last ≡ status_told 4 → supply ≡ shown_mask site.waits (supply_calls panel before)
-      → broken ≡ mask_of 4 (λ k. slice_index_or (one.broken ∷ two.broken ∷ three.broken ∷ last.broken ∷ []) k false)
-      → shorted ≡ mask_of 4 (λ k. slice_index_or (one.shorted ∷ two.shorted ∷ three.shorted ∷ last.shorted ∷ []) k false)
+  pub outside_is : (supply broken shorted silent links unconfirmed late : ℕ) → supply ≡ shown_mask site.waits (supply_calls panel before)
+      → broken ≡ told_broken site panel (reports site panel before) → shorted ≡ told_shorted site panel (reports site panel before)
       → unconfirmed ≡ late
       → (let o : Outside = record { supply = supply; broken = broken; shorted = shorted; silent = silent; links = links; unconfirmed = unconfirmed } in o)
       ≡ outside_with site panel before silent links late
-  outside_is one two three last supply broken shorted silent links unconfirmed late a b c d shown opened shorts waited =
-      outside_same supply broken shorted silent links unconfirmed _ _ _ _ shown (flags_are (λ s. s.broken) one two three last broken a b c d opened)
-      (flags_are (λ s. s.shorted) one two three last shorted a b c d shorts) waited
+  outside_is supply broken shorted silent links unconfirmed late shown opened shorts waited =
+      outside_same supply broken shorted silent links unconfirmed _ _ _ _ shown (opened ∙ flags_are (λ s. s.broken)) (shorts ∙ flags_are (λ s. s.shorted))
+      waited
 
 pub after_hold : (site : Site) (kept : Retained) (done : List Done) (told : Told) (panel : ℕ) (before : List Moment) (parts : Parts) (hold : HoldPart) (findings' : LaneState Finding)
     (outside : Outside) (now : ℕ) → PanelStands site kept done told panel before parts → AreBefore (tick_of before) done

@@ -8,11 +8,10 @@ pub mod EntriesKept
 pub mod Counts
 pub mod Settings
 pub mod TickDone
--- what befalls a panel: what was told stays, turns, those of Decide, Hold (with the flags of loops) and Supply, reports, an operation that comes in force
+-- what befalls a panel: what was told stays, turns, those of Decide, Hold and Supply, reports, an operation that comes in force
 pub mod Later
 pub mod Panels
 pub mod Takes
-pub mod LoopFlags
 pub mod Holds
 pub mod Supplies
 pub mod Reports

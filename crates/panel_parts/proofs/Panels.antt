@@ -69,7 +69,7 @@ pub after_poll : (site : Site) (kept : Retained) (done : List Done) (told : Told
     → lane ≡ with_put parts.answers (asked_in site panel (told_point (reports site panel before)) (told_cable (reports site panel before)) now)
     → PanelStands site kept done told panel (Turned panel Poll ∷ before) (record parts { answers = lane })
 after_poll site kept done told panel before parts lane now h tick put =
-    let format = h.polls.valid.forms.format.0 in
+    let format = h.polls.asks.valid.forms.format.0 in
     record {
       member = h.member;
       polls = h.polls;

@@ -1,5 +1,4 @@
-ghost use Rattle.std.specs.Prelude.{◌≡◌, ◌≤◌, [], ◌∷◌, IfOk, false, slice_index_or, true};
-ghost use Rattle.site_types.specs.Bits.{mask_of};
+ghost use Rattle.std.specs.Prelude.{◌≡◌, ◌≤◌, IfOk, true};
 ghost use Rattle.site_types.specs.Valid.{IsValid};
 ghost use Rattle.site_types.specs.Changes.{IsNumber};
 ghost use Rattle.loop_poller.specs.Stands.{HasPoint};
@@ -164,25 +163,13 @@ impl Parts {
     fn outside(&self, silent: u8, links: u8) -> Outside
         ensures { TellsHold self.now silent links result }
     {
-        let first = self.poller.status(1);
-        let second = self.poller.status(2);
-        let third = self.poller.status(3);
-        let fourth = self.poller.status(4);
         Outside {
             supply: self.supply.faults(),
-            broken: loops_with(first.broken, second.broken, third.broken, fourth.broken),
-            shorted: loops_with(first.shorted, second.shorted, third.shorted, fourth.shorted),
+            broken: self.poller.broken(),
+            shorted: self.poller.shorted(),
             silent,
             links,
             unconfirmed: self.drive.unconfirmed(),
         }
     }
-}
-
-// The loops whose flag is set, bit `loop - 1` each.
-fn loops_with(first: bool, second: bool, third: bool, fourth: bool) -> u8
-    ensures { result
-        ≡ mask_of 4 (λ k. slice_index_or (first ∷ second ∷ third ∷ fourth ∷ []) k false) }
-{
-    first as u8 + 2 * (second as u8) + 4 * (third as u8) + 8 * (fourth as u8)
 }

@@ -38,7 +38,7 @@ all_moved xs lane after moved was is =
 
 module _ (site : Site) (panel : ℕ) (history : List Moment) (asking after : Asking) (s : StandsForAsking site panel history asking) where
   pub is_known : 1 ≤ site.format
-  is_known = s.told.valid.forms.format.0
+  is_known = s.told.asks.valid.forms.format.0
 
   pub after_poll : (tick : ℕ) → after.panel ≡ asking.panel → after.poller ≡ asking.poller → after.decided ≡ asking.decided → after.held ≡ asking.held
       → tick_of history ≡ tick → after.answers.items ≡ asking.answers.items

@@ -4,7 +4,7 @@ use Rattle.part_trials.proofs.polling.ask.Goals as goal
 pub turn-requires-clause-stands : goal.turn-requires-clause-stands
 turn-requires-clause-stands c =
     let r = c.requires.stands in
-    record { site = c.args._site.now; panel = 1; calls = r.0; stands = r.1 }
+    record { site = c.args._site.now; panel = 1; calls = r.0; asks = r.1.asks }
 
 pub returns : goal.returns
 returns c =

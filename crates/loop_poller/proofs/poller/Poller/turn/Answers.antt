@@ -21,9 +21,9 @@ ask-requires-clause-within c =
     let some = c.requires.stands in
     let k = c.loop-line.line-index in
     let lines = c.args.self.now.lines in
-    let size = (some.stands.lines k (get_or lines k c.line-item.result) (slice_get-get_or lines k c.line-item.result (omega arith))).points.size in
-    let known = some.stands.valid.forms.format.0 in
-    let round : c.round.result ≡ round_of some.site.format = c.round.ensures ∙ ap round_of some.stands.format in
+    let size = (some.asks.lines k (get_or lines k c.line-item.result) (slice_get-get_or lines k c.line-item.result (omega arith))).points.size in
+    let known = some.asks.valid.forms.format.0 in
+    let round : c.round.result ≡ round_of some.site.format = c.round.ensures ∙ ap round_of some.asks.format in
     let below : c.args.now.0 % c.round.result < c.round.result = mod_below c.args.now.0 c.round.result (omega arith) in
     omega (arith, size)
 
@@ -32,9 +32,9 @@ ask-requires-clause-known c place point h =
     let some = c.requires.stands in
     let k = c.loop-line.line-index in
     let lines = c.args.self.now.lines in
-    let stands = some.stands.lines k (get_or lines k c.line-item.result) (slice_get-get_or lines k c.line-item.result (omega arith)) in
+    let stands = some.asks.lines k (get_or lines k c.line-item.result) (slice_get-get_or lines k c.line-item.result (omega arith)) in
     let below = knows_points some.site some.panel (k + 1) _ stands.points place point h in
-    let states = some.stands.states.size in
+    let states = some.asks.states.size in
     omega (arith, below, states)
 
 pub loop-line-preserved : goal.loop-line-preserved
@@ -58,13 +58,13 @@ pub returns-clause-asked : goal.returns-clause-asked
 unfolding asked_in
 returns-clause-asked c site panel calls stands =
     let all : c.loop-line.line-index ≡ 4 = omega arith in
-    rw all at (c.loop-line.invariant.put site panel calls stands)
+    rw all at (c.loop-line.invariant.put site panel calls stands.asks)
 
 pub returns-clause-few : goal.returns-clause-few
 unfolding asked_in
 returns-clause-few c =
     let some = c.requires.stands in
     let all : c.loop-line.line-index ≡ 4 = omega arith in
-    let put = rw all at (c.loop-line.invariant.put some.site some.panel some.calls some.stands) in
-    let few = asked_few some.site some.panel (told_point some.calls) (told_cable some.calls) c.args.now.0 some.stands.valid.forms.format.0 in
+    let put = rw all at (c.loop-line.invariant.put some.site some.panel some.calls some.asks) in
+    let few = asked_few some.site some.panel (told_point some.calls) (told_cable some.calls) c.args.now.0 some.asks.valid.forms.format.0 in
     omega (arith, ap (λ (l : LaneState Answer). l.put) put, few)
