@@ -35,7 +35,8 @@ pub record TellsLike (finding : Finding) (group : FindingGroup) : Type 0 where
   pub manual : finding.manual ≡ group.manual
   pub released : finding.released ≡ group.released
 
--- it is of the point at a place, and tells of zones nothing, or what the others do
+-- a finding can stand at a place of a group: it has the stamp of the group, is of the point at that place, and tells
+-- of zones nothing, or what those of the group do that tell of any
 pub record CanHave (place : ℕ) (finding : Finding) (group : FindingGroup) : Type 0 where
   pub within : place < 8
   pub stamp : finding.stamp ≡ group.stamp

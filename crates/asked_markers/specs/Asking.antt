@@ -10,7 +10,7 @@ pub record MayAllBe (Released ByHand Faulty : ℕ → Type 0) (facts : Facts) : 
   pub by_hand : (zone : ℕ) → facts.by_hand zone ≡ true → ByHand zone
   pub faults : (source : ℕ) → facts.faulty source ≡ true → Faulty source
 
--- such facts make the marker of an output true
+-- some facts, each true one of which may be true, make the marker of an output true
 pub record IsAskedOver (site : Site) (Released ByHand Faulty : ℕ → Type 0) (output : ℕ) : Type 0 where
   pub facts : Facts
   pub may_be : MayAllBe Released ByHand Faulty facts

@@ -8,7 +8,7 @@ use Rattle.panel_rules.specs.Outputs.{is_true_over}
 use Rattle.asked_markers.specs.Asking.{IsAskedOver}
 use Rattle.asked_markers.specs.FactsTold.{TellAll, facts_told}
 
--- they ask for an output exactly where some facts do that may be true
+-- masks that tell all facts that may be true ask for an output exactly where some facts do that may be true
 abbrev pub AllFactsDecide : Type 0
 AllFactsDecide =
     (site : Site) (masks : Masks) (may : Facts) (output : ℕ) → IsValid site

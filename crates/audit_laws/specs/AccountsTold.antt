@@ -26,13 +26,14 @@ pub record TellsAccount (site : Site) (kept : Retained) (ticks : List TickBlock)
       → AreAlikeAccounts site (account_of_text site (as_recorded ticks) (timeline_of site kept (moments ticks)))
       (account_of_run site kept (up_to tick (moments ticks))) tick
 
--- so it is where the text tells silences
+-- where a run's text tells silences, what it tells is alike, up to each tick, to what the run has kept and done by then
 abbrev pub AccountIsTold : Type 0
 AccountIsTold =
     (site : Site) (kept : Retained) (ticks : List TickBlock) → IsValid site → AreOrdered site.panels ticks
     → TellsSilences site kept ticks → TellsAccount site kept ticks
 
--- then no output that is due to be on is off
+-- where what a run's text tells is alike, up to each tick, to what the run has kept and done by then, the text shows no
+-- output off that is due to be on, but for sounders of a panel that was silenced
 abbrev pub OutputRuleIsKept : Type 0
 OutputRuleIsKept =
     (site : Site) (kept : Retained) (ticks : List TickBlock) (breach : Breach) → IsValid site

@@ -25,7 +25,8 @@ pub record AreAlikeAccounts (site : Site) (one other : Account) (tick : ℕ) : T
       → override_done_in panel first x one.done ≡ override_done_in panel first x other.done
   pub silences : (panel x : ℕ) → x ≤ tick → silence_before panel x one.done ≡ silence_before panel x other.done
 
--- then an output is on by the one exactly where it is by the other, also with what befell as a record tells it
+-- an output is on by one of two accounts that are alike up to now, with what befell as a record tells it, exactly where
+-- it is by the other, with all that befell
 abbrev pub AlikeOutputsAreOn : Type 0
 AlikeOutputsAreOn =
     (site : Site) (one other : Account) (moments : List Moment) (output : ℕ) → IsValid site
@@ -33,7 +34,8 @@ AlikeOutputsAreOn =
     → is_on site (facts_of site one.kept one.done) one.kept one.done output (without_failures moments)
     ≡ is_on site (facts_of site other.kept other.done) other.kept other.done output moments
 
--- and the same faults stand
+-- the same faults of a panel stand by one of two accounts that are alike up to now, with what befell as a record tells
+-- it, and by the other, with all that befell
 abbrev pub AlikeFaultsStand : Type 0
 AlikeFaultsStand =
     (site : Site) (one other : Account) (moments : List Moment) (panel : ℕ) → IsValid site

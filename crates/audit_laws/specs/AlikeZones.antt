@@ -25,8 +25,8 @@ pub record AreAlikeForZones (site : Site) (one other : Account) (tick : ℕ) : T
   pub cancellings : (zone x : ℕ) → x ≤ tick
       → cancelled_before zone x one.done ≡ cancelled_before zone x other.done
 
--- then a face shows a zone by the one account exactly where it does by the other, also with what befell as a record
--- tells it
+-- a face shows a zone by one of two accounts that are alike for zones up to now, with what befell as a record tells it,
+-- exactly where it does by the other, with all that befell
 abbrev pub AlikeZonesAreShown : Type 0
 AlikeZonesAreShown =
     (site : Site) (one other : Account) (stored also_stored : Retained) (moments : List Moment) (panel place : ℕ)

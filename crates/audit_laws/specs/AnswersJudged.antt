@@ -9,7 +9,7 @@ use Rattle.panel_rules.specs.Timeline.{timeline_of}
 use Rattle.run_text.specs.Failures.{as_recorded}
 use Rattle.audit_rules.specs.Breaches.{Breach, BreaksAnswer}
 
--- so no answer of it is one that nobody may have given
+-- no answer in a run's text is one that nobody may have given
 abbrev pub AnswerRuleIsKept : Type 0
 AnswerRuleIsKept =
     (site : Site) (kept : Retained) (ticks : List TickBlock) (breach : Breach) → AreOrdered site.panels ticks

@@ -30,7 +30,8 @@ HeardAtEffectMayBe =
     → MayBeHeard site moments panel source
     (heard site.panels panel source (before_effect site kept done moments panel))
 
--- so no output is on that can have no cause
+-- where what a run's text tells is alike, up to each tick, to what the run has kept and done by then, the text shows no
+-- output on that can have no cause
 abbrev pub CauseRuleIsKept : Type 0
 CauseRuleIsKept =
     (site : Site) (kept : Retained) (ticks : List TickBlock) (breach : Breach) → IsValid site

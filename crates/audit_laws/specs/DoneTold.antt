@@ -37,7 +37,7 @@ pub record TellsSettings (site : Site) (kept : Retained) : Type 0 where
 abbrev pub SettingsAreTold : Type 0
 SettingsAreTold = (site : Site) (kept : Retained) → IsValid site → TellsSettings site kept
 
--- so the text makes of zones what the run makes of them
+-- a run's text makes of zones, up to each tick, what the run makes of them by then
 abbrev pub ZonesAreTold : Type 0
 ZonesAreTold =
     (site : Site) (kept : Retained) (ticks : List TickBlock) → IsValid site → AreOrdered site.panels ticks

@@ -24,8 +24,8 @@ RecordsTellRuns =
     (ticks : List TickBlock) (tick : ℕ)
     → up_to tick (moments (as_recorded ticks)) ≡ without_failures (up_to tick (moments ticks))
 
--- they are of the same tick, have the same operations, answers of points and turns, and the same words are made and
--- kept
+-- moments with and without the failures of Keep are of the same tick, have the same operations, answers of points and
+-- turns, and the same words are made and kept in them
 pub record TellsTheSame (site : Site) (before : List Moment) : Type 0 where
   pub tick : tick_of (without_failures before) ≡ tick_of before
   pub asked : requests site (without_failures before) ≡ requests site before

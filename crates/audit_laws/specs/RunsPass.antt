@@ -20,7 +20,8 @@ RunsPass =
     (site : Site) (kept : Retained) (ticks : List TickBlock) → IsValid site → AreOrdered site.panels ticks
     → IsJudged site (as_recorded ticks) (timeline_of site kept (moments ticks)) (Passed (length ticks))
 
--- and so do the bytes: those of a record that is read to its end and tells these ticks, and the text of that run
+-- the bytes of the text of a run that can be told pass against those of each record that is read to its end and tells
+-- the ticks of the run
 abbrev pub TextsPass : Type 0
 TextsPass =
     (site : Site) (kept : Retained) (ticks : List TickBlock) (lines : List ℕ) → CanBeTold site kept (moments ticks)

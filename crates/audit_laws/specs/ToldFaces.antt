@@ -14,7 +14,7 @@ FacesAreTold =
     → faces_after tick (faces_of site kept []) (timeline_of site kept (moments ticks)).steps
     ≡ faces_of site kept (up_to tick (moments ticks))
 
--- so each panel of the site has the face that it had then
+-- by a run's text each panel of the site has, after each tick, the face that it had then in the run
 abbrev pub FaceIsTold : Type 0
 FaceIsTold =
     (site : Site) (kept : Retained) (ticks : List TickBlock) (tick panel : ℕ) → tick ≤ length ticks

@@ -17,7 +17,7 @@ use Rattle.audit_laws.specs.AlikeZones.{Account, AreAlikeForZones}
 abbrev pub account_of_run : Site → Retained → List Moment → Account
 account_of_run site kept moments = record { kept = kept; done = (operations site kept moments).done }
 
--- and what its whole text tells of that, to whoever has the record
+-- what a run's whole text tells of what the run has kept and done, to whoever has the record
 abbrev pub account_of_text : Site → List TickBlock → Timeline → Account
 account_of_text site ticks timeline =
     record {
@@ -33,7 +33,8 @@ pub record TellsOfZones (site : Site) (kept : Retained) (ticks : List TickBlock)
       (account_of_text site (as_recorded ticks) (timeline_of site kept (moments ticks)))
       (account_of_run site kept (up_to tick (moments ticks))) tick
 
--- then no zone that is due is hidden, and none is shown that can have no cause
+-- where a run's text tells of zones, up to each tick, what the run has done by then, it hides no zone that is due and
+-- shows none that can have no cause
 abbrev pub ZoneRulesAreKept : Type 0
 ZoneRulesAreKept =
     (site : Site) (kept : Retained) (ticks : List TickBlock) (breach : Breach) → IsValid site

@@ -13,7 +13,7 @@ abbrev pub was_asked_by : ℕ → Option Request → Bool
 was_asked_by tick None = false
 was_asked_by tick (Some request) = nat_le request.tick tick
 
--- its code has not the level that it needs
+-- an operation was asked for with a code that has not the level that the operation needs
 abbrev pub is_beyond_level : Option Request → Bool
 is_beyond_level None = false
 is_beyond_level (Some request) = nat_lt request.level (needed_by request.operation)

@@ -65,7 +65,7 @@ module _ (unnamed : Unnamed) where
 abbrev pub detector_in_first : ℕ → List Event
 detector_in_first tick = if tick == 1 then PointEvent 1 Alarm ∷ [] else []
 
--- so many ticks, in canonical order
+-- so many ticks of a site of one panel, in canonical order: the detector at address 2 is in alarm from the first on
 abbrev pub ticks_of_one : ℕ → List TickBlock
 ticks_of_one zero = []
 ticks_of_one (suc n) =

@@ -35,7 +35,7 @@ HeldZoneCanBeShown =
     → holds_alarm site kept done (panel_of_zone site zone) moments zone ≡ true
     → CanBeShown site timeline kept done moments (panel_of_zone site zone) zone
 
--- and one in alarm in the word that another panel keeps can be shown at that one
+-- a zone that is in alarm in the word of its own panel that another panel keeps can be shown at that other panel
 abbrev pub KeptZoneCanBeShown : Type 0
 KeptZoneCanBeShown =
     (site : Site) (timeline : Timeline) (kept : Retained) (done : List Done) (moments : List Moment)

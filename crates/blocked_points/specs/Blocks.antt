@@ -10,7 +10,7 @@ block_setting PointOff place = PointOffOf place
 block_setting ZoneOff place = ZoneOffOf place
 block_setting InTest place = InTestOf place
 
--- so many flags, each at its place
+-- a list has so many flags, and at each place the flag is the value for that place
 pub record AreBlockFlags (count : ℕ) (value : ℕ → Bool) (flags : List Bool) : Type 0 where
   pub size : length flags ≡ count
   pub each : (place : ℕ) → place < count → slice_index_or flags place false ≡ value place

@@ -39,7 +39,7 @@ pub data DependsOnChanged (site : Site) (before after : Facts) : ℕ → Type 0 
   through : (m next : ℕ) → has_term site m next ≡ true → DependsOnChanged site before after next
       → DependsOnChanged site before after m
 
--- so many numbers are so: a list of that length has each of them once, and no other
+-- so many numbers have a property: a list of that length has each of them once, and no other number
 pub record IsNumberOf (IsSo : ℕ → Type 0) (count : ℕ) : Type 0 where
   pub members : List ℕ
   pub once : IsDistinct (λ x y. x == y) members

@@ -12,7 +12,7 @@ cause_ended at cause = if cause.stands then record { stands = false; until = at 
 abbrev pub cause_given : Cause → Cause
 cause_given cause = record { stands = true; until = cause.until }
 
--- it is caused where it was or something causes it now
+-- what is kept of a zone: it is caused where it was or something causes it now
 abbrev pub cause_with : Bool → Cause → Cause
 cause_with given cause = if given then cause_given cause else cause
 

@@ -43,7 +43,7 @@ IsSwitchedBefore place tick points =
 abbrev pub KeepsOthers : ℕ → Decide → Decide → Type 0
 KeepsOthers place old decide = (k : ℕ) → k ≢ place → slice_get decide.points k ≡ slice_get old.points k
 
--- these answers are taken after those before
+-- the part that decides takes some answers after those that were taken before
 abbrev pub TakesAnswers : Decide → List Answer → Decide → Type 0
 TakesAnswers old answers decide =
     (site : Site) (kept : Retained) (panel : ℕ) (done : List Done) (taken : List Answer)
@@ -71,7 +71,7 @@ pub record CanTakeAnswerRun (decide : Decide) (run : Run AnswerGroup) (findings 
   pub room : HasRoom findings run.count
   pub may : CanTake decide (items_of answer_at run)
 
--- they are taken after those before, and one finding for each is put into the lane
+-- the answers of a run are taken after those before them, and one finding for each is put into the lane
 pub record TakesAnswerRun (old : Decide) (run : Run AnswerGroup) (lane : LaneState Finding) (decide : Decide)
     (findings : LaneState Finding) : Type 0 where
   pub taken : TakesAnswers old (items_of answer_at run) decide

@@ -26,12 +26,13 @@ pub record IsMarkedAlarm (decide : Decide) (answer : Answer) : Type 0 where
   pub alarm : answer.heard ≡ Alarm
   pub has : has_place decide.going_on answer.point ≡ true
 
--- so are all answers of a run of which the bits of a byte tell
+-- all answers of a run of which the bits of a byte tell are alarms of points whose alarms go on
 abbrev pub AreMarkedAlarms : Decide → Run AnswerGroup → ℕ → Type 0
 AreMarkedAlarms decide run bits =
     (k : ℕ) → k < run.count → has_bit bits k ≡ true → IsMarkedAlarm decide (answer_at run.first (run.taken + k))
 
--- they are, and their tick isn't before the latest one in which a point was marked
+-- the bits of a byte tell of answers of a run, all of them alarms of points whose alarms go on, and the tick of the run
+-- isn't before the latest one in which a point was marked
 pub record AreGoingOn (decide : Decide) (run : Run AnswerGroup) (bits : ℕ) : Type 0 where
   pub within : (k : ℕ) → has_bit bits k ≡ true → k < run.count
   pub marked : AreMarkedAlarms decide run bits

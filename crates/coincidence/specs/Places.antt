@@ -33,7 +33,8 @@ pub record GoesOnFrom (since : ℕ) (reset : LastDone) (point : PointWatch) (zon
   pub stays : (x : ℕ) (floor : Tick) → since ≤ x → floor.0 ≡ max (last_at x reset) (last_at x zone.moved)
       → StaysNoted Alarm true floor point
 
--- so it is with all points that a set has
+-- a set has room for all points, and those that it has are detectors in plain zones, of which each alarm from a tick on
+-- counts and leaves what is kept of the detector as it is
 pub record HasGoingOn (set : PlaceSet) (since : ℕ) (reset : LastDone) (points : List PointWatch)
     (zones : List ZoneWatch) : Type 0 where
   pub room : length points ≤ 8 * length set.bytes.items

@@ -18,7 +18,8 @@ pub record IsSettledAt (x : ℕ) (reset : LastDone) (watch : ZoneWatch) : Type 0
   pub off : watch.off.since.0 < x
   pub test : watch.test.since.0 < x
 
--- this is what they say of a zone of which this is kept, with the last reset of its panel
+-- what is said of a plain zone is what the operations done before a tick say of it, by what is kept of the zone and by
+-- the last reset of its panel
 pub record IsSaidAt (x : ℕ) (reset : LastDone) (zone : PlainZone) (watch : ZoneWatch) : Type 0 where
   pub rule : watch.rule ≡ Plain
   pub partner : watch.partner ≡ None
@@ -32,7 +33,7 @@ abbrev pub IsKnown : ℕ → Decide → PlainZone → Type 0
 IsKnown x decide zone =
     (watch : ZoneWatch) → slice_get decide.zones.items zone.zone ≡ Some watch → IsSaidAt x decide.reset zone watch
 
--- the same, if anything is said
+-- what is said of a zone, if anything is said, holds by what is kept
 abbrev pub KnowsZone : ℕ → Decide → Option PlainZone → Type 0
 KnowsZone x decide None = Unit {0}
 KnowsZone x decide (Some zone) = IsKnown x decide zone
@@ -41,7 +42,7 @@ KnowsZone x decide (Some zone) = IsKnown x decide zone
 abbrev pub KeepsKnown : Decide → Decide → Type 0
 KeepsKnown old decide = (x : ℕ) (zone : PlainZone) → IsKnown x old zone → IsKnown x decide zone
 
--- it is said of the zone of an answer's point, at the answer's tick
+-- what is said of a zone holds by what is kept, at an answer's tick, and the zone is that of the answer's point
 pub record IsOfPoint (answer : Answer) (decide : Decide) (zone : PlainZone) : Type 0 where
   pub known : IsKnown answer.stamp.0 decide zone
   pub own : (watch : PointWatch) → watch ≡ slice_index_or decide.points answer.point watch → zone.zone ≡ watch.zone

@@ -28,12 +28,12 @@ FindsLast decide answer finding =
     → Fits site panel done (taken ++ answer ∷ []) answer
     → finding ≡ finding_of site kept panel done taken answer
 
--- these are what is kept of the answer's point and of the point's zone
+-- what is kept of a point and of a zone is that of an answer's point and of the point's zone
 pub record AreKeptOf (decide : Decide) (answer : Answer) (point : PointWatch) (zone : ZoneWatch) : Type 0 where
   pub point_is : point ≡ slice_index_or decide.points answer.point point
   pub zone_is : zone ≡ slice_index_or decide.zones.items point.zone zone
 
--- this is what the operations done before an answer say of it
+-- a judgement of an answer is what the operations done before the answer say of it
 abbrev pub TellsJudgement : Decide → Answer → Judgement → Type 0
 TellsJudgement decide answer judgement =
     (site : Site) (kept : Retained) (panel : ℕ) (done : List Done) (taken : List Answer)
@@ -48,7 +48,8 @@ FindsJudged decide answer judgement finding =
     → Fits site panel done (taken ++ answer ∷ []) answer → Judges site kept done answer judgement
     → finding ≡ finding_of site kept panel done taken answer
 
--- this is all that is observed of an answer at its point and in the point's zone, where this is said of it
+-- an observation is all that is observed of an answer at its point and in the point's zone, where a judgement is what
+-- the operations done before the answer say of it
 abbrev pub ObservesJudged : Decide → Answer → Judgement → Observation → Type 0
 ObservesJudged decide answer judgement seen =
     (site : Site) (kept : Retained) (panel : ℕ) (done : List Done) (taken : List Answer)

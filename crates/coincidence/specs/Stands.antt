@@ -120,7 +120,7 @@ pub record StandsWith (decide : Decide) (Holds : Site → Retained → ℕ → L
   pub stands : DecidesFor site kept panel done taken decide
   pub may : Holds site kept panel done taken
 
--- it stands for something with which the answer fits
+-- the part that decides stands for some operations done and answers taken with which an answer fits
 abbrev pub CanObserve : Decide → Answer → Type 0
 CanObserve decide answer =
     StandsWith decide (λ site kept panel done taken. Fits site panel done taken answer)

@@ -13,21 +13,23 @@ use Rattle.site_types.specs.Done.{Done, floor_before, cancelled_before}
 use Rattle.coincidence_rules.specs.Places.{is_of, is_manual, is_detector, rule_of, pairs_up}
 use Rattle.coincidence_rules.specs.Counted.{is_counted}
 
--- the other answer is of another point, of this zone; it counts, was not given later, and lies after each
--- floor of the zone that came before the answer
+-- for an answer and a zone, the other answer is of another point of the zone; it counts, was not given later, and lies
+-- after each floor of the zone that came before the answer
 abbrev pub is_second : Site → Retained → List Done → ℕ → Answer → Answer → Bool
 is_second site kept done zone answer other =
     ((is_of site zone other.point && is_counted site kept done other) && not (other.point == answer.point))
     && (nat_lt (floor_before site zone answer.stamp.0 done) other.stamp.0
     && nat_le other.stamp.0 answer.stamp.0)
 
--- the other answer is such a second one, of a detector, at most so many ticks before
+-- for an answer and a zone, the other answer is of another point, a detector of the zone; it counts, was given at most
+-- so many ticks before, and lies after each floor of the zone that came before the answer
 abbrev pub is_near : Site → Retained → List Done → ℕ → ℕ → Answer → Answer → Bool
 is_near site kept done within zone answer other =
     (is_second site kept done zone answer other && is_detector site other.point)
     && nat_le answer.stamp.0 (other.stamp.0 + within)
 
--- it is one that also lies after each cancelling of the zone that came before the answer
+-- for an answer and a zone, the other answer is of another point, a detector of the zone; it counts, was given at most
+-- so many ticks before, and lies after each floor and each cancelling of the zone that came before the answer
 abbrev pub is_uncancelled : Site → Retained → List Done → ℕ → ℕ → Answer → Answer → Bool
 is_uncancelled site kept done within zone answer other =
     is_near site kept done within zone answer other

@@ -25,7 +25,7 @@ some_finding_tells mask zone stamps findings =
 abbrev pub some_answer_does : (Answer → Bool) → (ℕ → Bool) → List Answer → Bool
 some_answer_does test stamps answers = list_any (λ a. stamps a.stamp.0 && test a) answers
 
--- that a zone is confirmed
+-- findings of answers in order tell at some stamps that a zone is confirmed exactly where an answer there confirms it
 abbrev pub FindingsTellConfirmed : Type 0
 FindingsTellConfirmed =
     (site : Site) (kept : Retained) (done : List Done) (answers : List Answer) (place : ℕ) (zone : Zone)
@@ -33,7 +33,7 @@ FindingsTellConfirmed =
     → some_finding_tells (λ f. f.confirmed) zone stamps (findings_of site kept zone.panel done answers)
     ≡ some_answer_does (confirms site kept done answers place) stamps answers
 
--- that it is released
+-- findings of answers in order tell at some stamps that a zone is released exactly where an answer there releases it
 abbrev pub FindingsTellReleased : Type 0
 FindingsTellReleased =
     (site : Site) (kept : Retained) (done : List Done) (answers : List Answer) (place : ℕ) (zone : Zone)
@@ -41,7 +41,7 @@ FindingsTellReleased =
     → some_finding_tells (λ f. f.released) zone stamps (findings_of site kept zone.panel done answers)
     ≡ some_answer_does (releases site kept done answers place) stamps answers
 
--- that it is called by hand
+-- findings of answers tell at some stamps that a zone is called by hand exactly where an answer there calls it
 abbrev pub FindingsTellCalls : Type 0
 FindingsTellCalls =
     (site : Site) (kept : Retained) (done : List Done) (answers : List Answer) (place : ℕ) (zone : Zone)
@@ -49,7 +49,7 @@ FindingsTellCalls =
     → some_finding_tells (λ f. f.manual) zone stamps (findings_of site kept zone.panel done answers)
     ≡ some_answer_does (calls site kept done place) stamps answers
 
--- that an alarm of a point of it counts
+-- findings of answers tell at some stamps that an alarm of a point of a zone counts exactly where one there does
 abbrev pub FindingsTellCounted : Type 0
 FindingsTellCounted =
     (site : Site) (kept : Retained) (done : List Done) (answers : List Answer) (place : ℕ) (zone : Zone)

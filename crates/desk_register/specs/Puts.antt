@@ -9,11 +9,11 @@ abbrev pub name_of_point : Option Point → List ℕ
 name_of_point None = []
 name_of_point (Some point) = point.name.bytes
 
--- that the visit of a number tested the point at a place
+-- the row that says that the visit of a number tested the point at a place
 abbrev pub test_at : Site → ℕ → ℕ → TestRow
 test_at site number place = test_named number (name_of_point (slice_get site.points place))
 
--- that it tested the points at these places
+-- the rows that say that the visit of a number tested the points at some places, one for each
 abbrev pub tests_at : Site → ℕ → List ℕ → List TestRow
 tests_at site number places = map (test_at site number) places
 

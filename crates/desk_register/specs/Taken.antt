@@ -36,7 +36,7 @@ IsOfTests NoSuchVisit = ⊤
 IsOfTests KeeperFault = ⊤
 IsOfTests NoMemory = ⊤
 
--- and which a visit with such tests has
+-- which refusals a visit with tests of points of the site has, whether or not the keeper tells its tables
 abbrev pub IsOfVisitWithTests : RegisterRefusal → Type 0
 IsOfVisitWithTests NoSuchPoint = ⊥
 IsOfVisitWithTests (Differs other) = ⊤

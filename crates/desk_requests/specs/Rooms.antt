@@ -15,7 +15,7 @@ pub record GainsBytes (old new : RequestRoom) (left rest : Option (List ℕ)) (c
   pub taken : Consumes left rest piece
   pub ends : IfSome left (λ bytes. (count ≡ 0) ↔ (bytes ≡ []))
 
--- the same of bytes of which so many were filled
+-- a read brought a piece of so many bytes behind those that were filled before, none only at the end of the input
 pub record FillsBehind (old new : List ℕ) (filled : ℕ) (left rest : Option (List ℕ)) (count : ℕ) : Type 0 where
   pub piece : List ℕ
   pub counted : length piece ≡ count

@@ -68,7 +68,8 @@ pub record HasReadCause (before after : ℕ) (taken : Taken) : Type 0 where
   pub later : before ≤ after
   pub failed : taken ≡ ReadFault → Rose before after
 
--- the same behind some bytes that were read before
+-- more bytes were read of what was left, behind some that were read before: all of them together are answered so, and
+-- where the answer says that the input ended, the new ones are all that was left
 pub record TakesMore (panels : ℕ) (left rest : Option (List ℕ)) (before bytes : List ℕ) (taken : Taken) : Type 0 where
   pub piece : List ℕ
   pub behind : bytes ≡ before ++ piece

@@ -32,7 +32,7 @@ pub record MayTellLines (rest : List ℕ) (run : Run) : Type 0 where
   pub ticks : List TickBlock
   pub with : MayTellWith site kept ticks rest run
 
--- they were told, and no byte tells more than one
+-- the lines of the block of a tick behind the first were told, and no byte tells more than one of them
 pub record ToldLines (site : Site) (kept : Retained) (ticks : List TickBlock) (rest : List ℕ) (run : Run) : Type 0 where
   pub stands : Stands site kept (record { run = ticks; block = Some (block_of site (lines_behind site rest)) }) run
   pub few : length (lines_behind site rest) ≤ length rest
@@ -77,7 +77,7 @@ pub record MayRunBlock (tick : ℕ) (block : List ℕ) (run : Run) : Type 0 wher
   pub ticks : List TickBlock
   pub with : MayRunWith site kept ticks tick block run
 
--- it was run, and what was shown before it is at hand
+-- the block of the next tick was run, and what was shown before that tick is at hand
 pub record RanBlock (site : Site) (kept : Retained) (ticks : List TickBlock) (block : List ℕ) (disks : Disks)
     (changed : Bool) (old run : Run) : Type 0 where
   pub failed : Bool

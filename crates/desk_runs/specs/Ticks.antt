@@ -37,7 +37,7 @@ is_next found count = nat_lt count last_tick && found == count + 1
 abbrev pub tick_expected : ℕ → ℕ
 tick_expected count = if nat_lt count last_tick then count + 1 else 0
 
--- these ticks were run, and none is open
+-- how far a run has come in which some ticks were run, and none is open
 abbrev pub at_rest : List TickBlock → Progress
 at_rest ticks = record { run = ticks; block = None }
 

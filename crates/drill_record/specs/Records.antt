@@ -21,7 +21,7 @@ use Rattle.drill_record.specs.declared.drawn.Drawn.{Drawn}
 unfoldable pub seeded : ℕ → Lcg
 seeded seed = pcg32_of_seed (pcg32_seed 16 seed)
 
--- the same when so many words were drawn
+-- the generator of a seed when so many words were drawn
 abbrev pub after_words : ℕ → ℕ → Lcg
 after_words seed zero = seeded seed
 after_words seed (suc n) = (pcg32 (after_words seed n)).1

@@ -70,7 +70,7 @@ points_of_panel panel = for_each (points_of_loop panel) 4
 
 -- ---- the file
 
--- its lists begin with their keys
+-- how each list of the site file of a drill begins: with its key
 abbrev pub list_head : Part → List ℕ
 list_head Loops = codes "loop = [\n"
 list_head Zones = codes "zone = [\n"

@@ -21,7 +21,8 @@ pub record IsTickOpen (before : List Moment) (tried : ℕ) : Type 0 where
   pub unkept : has_kept before ≡ false
   pub untried : tried < tick_of before
 
--- it stands for some run of a site that began with nothing retained, in which a tick is open where it says so
+-- a driven panel with its journal stands for some run of a site that began with nothing retained, in which a tick is
+-- open where the panel says so
 pub record IsDrivenNode (own : DrivenNode) : Type 0 where
   pub site : Site
   pub history : List NodeMoment
@@ -37,6 +38,7 @@ pub record IsDrivenNode (own : DrivenNode) : Type 0 where
   pub closed : own.has_begun ≡ false → HaveAllTurned site.panels (befallen history)
   pub opened : own.has_begun ≡ true → IsTickOpen (befallen history) own.journal.tried
 
--- each of them does
+-- each of some driven panels with their journals stands for some run of a site that began with nothing retained, in
+-- which a tick is open where the panel says so
 abbrev pub AreDriven : DrivenNodes → Type 0
 AreDriven all = All IsDrivenNode all.nodes.items

@@ -22,7 +22,7 @@ since_with now true since = if since == 0 then now else since
 abbrev pub output_run_with : ℕ → Bool → Bool → OutputRun → OutputRun
 output_run_with now asked by_hand run = record { since = since_with now asked run.since; by_hand = by_hand }
 
--- so many runs, none of which has begun
+-- the runs of so many outputs, none of which has begun
 pub record AreNoRuns (count : ℕ) (runs : List OutputRun) : Type 0 where
   pub size : length runs ≡ count
   pub each : (place : ℕ) (run : OutputRun) → slice_get runs place ≡ Some run
