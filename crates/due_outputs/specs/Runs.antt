@@ -40,7 +40,7 @@ pub record TakesRun (site : Site) (panels : List PanelMarkers) (now place : ℕ)
   pub tells_by_hand : TellsAsked markers.hand output by_hand
   pub goes_on : new ≡ output_run_with now asked by_hand old
 
--- the same for all
+-- one more tick for the runs of the outputs, each as the markers of the output's panel tell whether it is asked
 pub record TakeRuns (site : Site) (panels : List PanelMarkers) (now : ℕ) (old new : List OutputRun) : Type 0 where
   pub size : length new ≡ length old
   pub each : (place : ℕ) (before after : OutputRun) → slice_get old place ≡ Some before

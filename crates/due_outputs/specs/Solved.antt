@@ -19,12 +19,12 @@ pub record AreSolved (site : Site) (markers : PanelMarkers) : Type 0 where
   pub out : GoesBy site markers.out.facts markers.out
   pub hand : GoesBy site markers.hand.facts markers.hand
 
--- and over what is due
+-- the markers of a panel are solved over what is due to be released and by hand, and over what is due by hand alone
 pub record GoByDue (site : Site) (zones : DueZones) (markers : PanelMarkers) : Type 0 where
   pub out : GoesBy site (out_due zones) markers.out
   pub hand : GoesBy site (hands_due zones) markers.hand
 
--- the same at each panel
+-- the markers of each of 8 panels are solved over their facts, whichever these are
 pub record HaveSolved (site : Site) (panels : List PanelMarkers) : Type 0 where
   pub size : length panels ≡ 8
   pub each : (place : ℕ) (markers : PanelMarkers) → slice_get panels place ≡ Some markers → AreSolved site markers

@@ -19,7 +19,8 @@ pub record AreDecisive (site : Site) (kept : Retained) (done : List Done) (momen
   pub by_hand : (panel : ℕ) → IsDueByHand site kept done moments zone panel
       ↔ IsDueFrom site kept done moments zone panel signals.by_hand
 
--- the same of each zone, at its place
+-- for each zone the row at its place tells of each kind of signals a tick from which on one counts, or none: where that
+-- one is due at a panel, the zone is, and nowhere else
 abbrev pub AreAllDecisive : Site → Retained → List Done → List Moment → List LeastSignals → Type 0
 AreAllDecisive site kept done moments signals = (zone : ℕ) (row : LeastSignals)
     → slice_get signals zone ≡ Some row → AreDecisive site kept done moments zone row

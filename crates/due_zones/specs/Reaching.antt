@@ -23,7 +23,7 @@ pub record HasReach (site : Site) (moments : List Moment) (zone panel : ℕ) (re
 abbrev pub IsHome : Reach → ℕ → Type 0
 IsHome reach settled = (reach.own ≡ true) × (settled + signal_of reach.format ≤ reach.tick)
 
--- it had settled when the last window began in which a word came round the ring
+-- a signal that counts from a tick on had settled when the last window began in which a word came round the ring
 abbrev pub CameRound : ℕ → ℕ → Option ℕ → Type 0
 CameRound format settled None = ⊥
 CameRound format settled (Some first) = settled + settled_of format ≤ first

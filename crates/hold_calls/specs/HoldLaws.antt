@@ -13,7 +13,7 @@ use Rattle.panel_rules.specs.Run.{faults_of, tells_fault}
 use Rattle.panel_rules.specs.Words.{latest_word}
 use Rattle.hold_calls.specs.Turns.{ring_turns}
 
--- its word is the latest word of the panel, and tells a fault where the rules say so
+-- the word of a panel's Hold in the ring is the latest word of the panel, and tells a fault where the rules say so
 abbrev pub HeldWord : Type 0
 HeldWord =
     (site : Site) (kept : Retained) (done : List Done) (panel : ℕ) (before : List Moment)
@@ -21,7 +21,7 @@ HeldWord =
     → word_after site kept panel done (ring_turns site kept done panel before)
     ≡ latest_word site kept done (tells_fault site kept done) panel before
 
--- its faults are those of the panel, whatever befell it in whatever order
+-- the faults of a panel's Hold in the ring are those of the panel, whatever befell it in whatever order
 abbrev pub HeldFaults : Type 0
 HeldFaults =
     (site : Site) (kept : Retained) (done : List Done) (panel : ℕ) (before : List Moment)
@@ -36,7 +36,7 @@ HeldNews =
     → last_news_told site kept panel done (ring_turns site kept done panel before)
     ≡ last_news site kept done panel before
 
--- its buzzer sounds as that of the panel
+-- the buzzer of a panel's Hold in the ring sounds as that of the panel
 abbrev pub HeldBuzzer : Type 0
 HeldBuzzer =
     (site : Site) (kept : Retained) (done : List Done) (panel : ℕ) (before : List Moment)
@@ -44,7 +44,7 @@ HeldBuzzer =
     → buzzer_after site kept panel done (ring_turns site kept done panel before)
     ≡ buzzer_of site kept done panel before
 
--- it counts as many entries into the fire alarm condition as there were
+-- a panel's Hold in the ring counts as many entries into the fire alarm condition as there were
 abbrev pub HeldEntries : Type 0
 HeldEntries =
     (site : Site) (kept : Retained) (done : List Done) (panel : ℕ) (before : List Moment)

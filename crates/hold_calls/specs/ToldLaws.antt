@@ -12,14 +12,15 @@ use Rattle.hold_calls.specs.Shown.{buzzer_told, latest_faults, news_told, word_t
 use Rattle.hold_calls.specs.Told.{Told}
 use Rattle.hold_calls.specs.Turns.{hold_turns}
 
--- its faults, whatever befell the panel in whatever order
+-- the faults of a panel's Hold are those that stood at its latest turn, by what the panel was told from elsewhere,
+-- whatever befell the panel in whatever order
 abbrev pub ToldFaults : Type 0
 ToldFaults =
     (site : Site) (kept : Retained) (done : List Done) (told : Told) (panel : ℕ) (before : List Moment)
     → faults_after site kept panel done (hold_turns site kept done told panel before)
     ≡ latest_faults site kept done told panel before
 
--- its word
+-- the word of a panel's Hold is the latest word of the panel, by what the panel was told from elsewhere
 abbrev pub ToldWord : Type 0
 ToldWord =
     (site : Site) (kept : Retained) (done : List Done) (told : Told) (panel : ℕ) (before : List Moment)
@@ -35,7 +36,7 @@ ToldNews =
     → last_news site kept panel done (hold_turns site kept done told panel before)
     ≡ news_told site kept done told panel before
 
--- its buzzer
+-- the buzzer of a panel's Hold sounds as that of the panel, by what the panel was told from elsewhere
 abbrev pub ToldBuzzer : Type 0
 ToldBuzzer =
     (site : Site) (kept : Retained) (done : List Done) (told : Told) (panel : ℕ) (before : List Moment)

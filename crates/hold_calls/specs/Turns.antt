@@ -36,6 +36,6 @@ hold_turns site kept done told panel (Turned other Hold ∷ before) =
 hold_turns site kept done told panel (Turned other task ∷ before) = hold_turns site kept done told panel before
 hold_turns site kept done told panel (Kept failed ∷ before) = hold_turns site kept done told panel before
 
--- those of a panel in the ring
+-- all turns so far of the Hold of a panel in the ring, the newest first
 abbrev pub ring_turns : Site → Retained → List Done → ℕ → List Moment → List HoldTurn
 ring_turns site kept done panel before = hold_turns site kept done (told_in_ring site kept done panel) panel before

@@ -18,7 +18,7 @@ abbrev pub HoldShorts : LoopPlan → Cable → List Bool → Type 0
 HoldShorts plan cable shorted = (place : ℕ) → place < 256
     → slice_index_or shorted place false ≡ holds_short plan cable place
 
--- so many pieces from end A on are passed, and no more
+-- so many pieces of a loop from end A on are passed, and no more
 pub record PassAhead (plan : LoopPlan) (cable : Cable) (ahead : ℕ) : Type 0 where
   pub passed : (piece : ℕ) → piece < ahead → is_passed plan cable piece ≡ true
   pub within : ahead ≤ plan.last + 1

@@ -6,11 +6,11 @@ use Rattle.joined_panels.specs.Links.{has_way_up, is_link_up}
 use Rattle.joined_panels.specs.declared.way.Way.{Way}
 use Rattle.joined_panels.specs.Latest.{IsLatestTick}
 
--- it was up at each tick of a span, both ends included
+-- a way round the ring was up at each tick of a span, both ends included
 abbrev pub IsUpThroughout : (ℕ → Bool) → ℕ → ℕ → Type 0
 IsUpThroughout was_up first last = (tick : ℕ) → first ≤ tick → tick ≤ last → was_up tick ≡ true
 
--- it was up from a tick on for so many ticks, all before the end
+-- a way round the ring was up from a tick on for so many ticks, all before the end
 pub record IsUpFor (was_up : ℕ → Bool) (spread end first : ℕ) : Type 0 where
   pub past : first + spread ≤ end
   pub through : (tick : ℕ) → first ≤ tick → tick < first + spread → was_up tick ≡ true
@@ -32,7 +32,8 @@ abbrev pub TakesWay : Bool → ℕ → ℕ → Way → Way → Type 0
 TakesWay up now spread old new = (was_up : ℕ → Bool) (before : ℕ) → KnowsWay was_up spread before old
     → now ≡ before + 1 → was_up now ≡ up → KnowsWay was_up spread now new
 
--- the same for all, by the links that are up
+-- the way up from each of 8 panels to each, which is up at a tick by the links that are up, or isn't, is taken over
+-- that tick
 abbrev pub TakesWays : Links → ℕ → ℕ → Ways → Ways → Type 0
 TakesWays links now spread old new = (place : ℕ) (other : Way) → place < 64
     → TakesWay (has_way_up (is_link_up links) links.panels (place / 8 + 1) (place % 8 + 1)) now spread

@@ -33,7 +33,7 @@ FewEntriesAreNew =
     (site : Site) (kept : Retained) (done : List Done) (panel : ℕ) (before : List Moment)
     → IsRun site.panels before → length (new_entries site kept done panel before) ≤ tick_of before
 
--- so its count can be held, and the batch is small
+-- the count of new entries of each panel can be held, and the batch of what is left to keep is small
 abbrev pub BatchMayBeMade : Type 0
 BatchMayBeMade =
     (site : Site) (kept : Retained) (before : List Moment) (entries : List ℕ) (waiting : List Request)

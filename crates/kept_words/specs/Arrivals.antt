@@ -17,7 +17,7 @@ pub data Arrival : Type 0 where
 abbrev pub has_word_of : ℕ → Frame → Bool
 has_word_of source frame = ((source - 1) / 4) == frame.group
 
--- that word
+-- the word of a panel in a frame of the panel's group
 abbrev pub framed_word : ℕ → Frame → Word
 framed_word source frame = slice_index_or frame.words ((source - 1) % 4) empty_word
 

@@ -9,12 +9,12 @@ use Rattle.panel_rules.specs.Outputs.{released_at_effect}
 use Rattle.panel_rules.specs.Run.{facts_of}
 use Rattle.later_operations.specs.Later.{StaysAsMoreIsDone}
 
--- those of an Effect turn made now
+-- the facts of an Effect turn made now stay as more is done
 abbrev pub FactsStay : Type 0
 FactsStay = (site : Site) (kept : Retained) (panel : ℕ)
     → StaysAsMoreIsDone (λ done moments. facts_of site kept done panel moments)
 
--- those of the latest Effect turn; before the first one, what is given
+-- the facts of the latest Effect turn, or before the first one what is given, stay as more is done
 abbrev pub LatestFactsStay : Type 0
 LatestFactsStay =
     (site : Site) (kept : Retained) (none : Facts) (panel : ℕ)

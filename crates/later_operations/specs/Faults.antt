@@ -6,7 +6,7 @@ use Rattle.panel_rules.specs.Faults.{outside_at}
 use Rattle.panel_rules.specs.Run.{facts_of, faults_of}
 use Rattle.later_operations.specs.Later.{StaysAsMoreIsDone}
 
--- those of a panel at its latest turn of Hold
+-- the faults of a panel at its latest turn of Hold stay as more is done
 abbrev pub FaultsStay : Type 0
 FaultsStay = (site : Site) (kept : Retained) (panel : ℕ)
     → StaysAsMoreIsDone (λ done moments. faults_of site kept done panel moments)

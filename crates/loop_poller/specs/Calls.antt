@@ -33,7 +33,7 @@ abbrev pub told_broken : Site → ℕ → List Call → ℕ
 told_broken site panel calls =
     mask_of most_loops (λ k. (status_on (loop_of site panel (k + 1)) (told_cable calls (k + 1))).broken)
 
--- and those whose cable has a short piece
+-- the loops of a panel whose cable has a short piece, by what was told of it, bit `loop - 1` each
 abbrev pub told_shorted : Site → ℕ → List Call → ℕ
 told_shorted site panel calls =
     mask_of most_loops (λ k. (status_on (loop_of site panel (k + 1)) (told_cable calls (k + 1))).shorted)

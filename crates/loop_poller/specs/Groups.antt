@@ -13,7 +13,7 @@ abbrev pub points_of_eight : List (Option ℕ) → ℕ → List ℕ
 points_of_eight points first =
     filter_map (λ address. slice_index_or points (address - 1) None) (range_with_len first 8)
 
--- they are the points of a group, and follow one another
+-- the points at eight addresses from a first one on are the points of a group, and follow one another
 abbrev pub FollowFrom : List (Option ℕ) → ℕ → Group → Type 0
 FollowFrom points first group = points_of_eight points first ≡ range_with_len group.first group.count
 

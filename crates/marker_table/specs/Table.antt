@@ -81,7 +81,7 @@ abbrev pub AddsInput : Input → Mask → Mask → Type 0
 AddsInput input old new = (readings : Readings)
     → count_in readings new ≡ count_in readings old + one_if (reads readings input)
 
--- the same of the mask at a place
+-- a mask has one input more than the mask that stands at a place of a list, and there is one at that place
 abbrev pub AddsInputAt : Input → List Mask → ℕ × Mask → Type 0
 AddsInputAt input masks (place, new) = (place < length masks)
     × ((old : Mask) → slice_get masks place ≡ Some old → AddsInput input old new)

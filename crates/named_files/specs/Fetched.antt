@@ -9,7 +9,7 @@ abbrev pub IsNoFile : Option (List ℕ) → Type 0
 IsNoFile None = ⊤
 IsNoFile (Some bytes) = most_file_bytes < length bytes
 
--- these bytes stand under the name, and no more than a file may have
+-- these bytes stand under the name of a file, and no more than a file may have
 pub record IsWhole (file : Option (List ℕ)) (bytes : List ℕ) : Type 0 where
   pub is : file ≡ Some bytes
   pub within : length bytes ≤ most_file_bytes

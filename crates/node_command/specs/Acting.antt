@@ -45,7 +45,7 @@ module _ (site : Site) (panel : ℕ) (kept : Retained) where
     pub stores : Stores site kept (node_stored_old disks before) (node_stored_new disks after) [] ticks
     pub few : length (moments ticks) ≤ served * 2 ^ 17
 
--- or the door gave none
+-- the door gave no connection; the panel and its disk stay as they were, and so does what the door still tells
 pub record GivesNone (disks : Disks) (door : DoorSides) (before after : NodeRun) : Type 0 where
   pub disk : disks.new ≡ disks.old
   pub waiting : door.waiting_after ≡ door.waiting_before

@@ -35,7 +35,7 @@ pub record ServesEnough (count : ℕ) (conns : List ExchangedConn) (old new : Op
   pub enough : length conns ≡ count
   pub says : Says Done (served_line count) old new outcome.status
 
--- or the door failed before
+-- the door failed before as many connections were served as were asked for, and that it failed is told
 pub record ServesTooFew (count : ℕ) (conns : List ExchangedConn) (old new : Option (List ℕ)) (outcome : Outcome) :
     Type 0 where
   pub fewer : length conns < count
@@ -111,7 +111,8 @@ pub record ServesPanelIf (site : Site) (digest : List ℕ) (panel : ℕ) (disk :
   pub within : panel ≤ site.panels → ServesPanelOver site digest panel disk door count old new outcome
   pub above : site.panels < panel → LacksPanel disk door old new outcome
 
--- the same, or there is no site, and why is told
+-- what serving a panel of a site comes to, where the site has the panel; where it has not, the usage is told; where
+-- there is no site, why is told
 abbrev pub ServesPanelOf : List ℕ → ℕ → JournalDisk → DoorSides → ℕ → Option (List ℕ) → Option (List ℕ) → Outcome
     → Result Site Stop → Type 0
 ServesPanelOf digest panel disk door count old new outcome (Ok site) =

@@ -37,7 +37,7 @@ pub record MayTellLines (rest : List ℕ) (node : Node) : Type 0 where
   pub ticks : List TickBlock
   pub with : MayTellWith site panel kept history ticks rest node
 
--- they were told, each of them an event of the panel, and no byte tells more than one
+-- the lines behind the first of a block were told, each of them an event of the panel, and no byte tells more than one
 pub record ToldLines (site : Site) (panel : ℕ) (kept : Retained) (history : List NodeMoment) (rest : List ℕ)
     (node : Node) : Type 0 where
   pub stands : NodeStandsFor site panel kept (with_lines site (lines_behind site rest) history) node

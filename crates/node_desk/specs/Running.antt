@@ -68,7 +68,7 @@ pub record MayMakeTurns (run : NodeRun) : Type 0 where
   pub events : List Event
   pub begun : HasBegun site panel kept history ticks events run
 
--- its turns were made, and what was shown before it is at hand
+-- the turns of a tick were made, and what was shown before the tick is at hand
 pub record MadeTick (site : Site) (panel : ℕ) (kept : Retained) (history : List NodeMoment) (ticks : List TickBlock)
     (events : List Event) (disks : Disks) (old run : NodeRun) : Type 0 where
   pub failed : Bool
@@ -104,7 +104,7 @@ pub record MayRunBlock (tick : ℕ) (block : List ℕ) (run : NodeRun) : Type 0 
   pub ticks : List TickBlock
   pub with : MayRunWith site panel kept history ticks tick block run
 
--- it was run, and what was shown before it is at hand
+-- the block of a tick was run, and what was shown before the tick is at hand
 pub record RanBlock (site : Site) (panel : ℕ) (kept : Retained) (history : List NodeMoment) (ticks : List TickBlock)
     (block : List ℕ) (disks : Disks) (old run : NodeRun) : Type 0 where
   pub failed : Bool

@@ -13,7 +13,7 @@ use Rattle.node_answers.specs.Exchanges.{at_tick_end}
 use Rattle.panel_node.specs.Stands.{NodeStandsFor}
 use Rattle.node_desk.specs.declared.node_run.NodeRun.{NodeRun}
 
--- these ticks were run, and what befell in them is what befell in this history
+-- a panel at work by itself ran these ticks, and what befell in them is what befell in this history
 pub record RunsFor (site : Site) (panel : ℕ) (kept : Retained) (history : List NodeMoment) (ticks : List TickBlock)
     (run : NodeRun) : Type 0 where
   pub node : NodeStandsFor site panel kept history run.node
@@ -27,7 +27,7 @@ pub record RunsFor (site : Site) (panel : ℕ) (kept : Retained) (history : List
   pub failed : run.store_failures ≡ failures ticks
   pub few : length ticks ≤ last_tick
 
--- so many ticks were run, whatever it stands for
+-- a panel at work by itself ran so many ticks, whatever it stands for
 abbrev pub HasTicks : NodeRun → ℕ → Type 0
 HasTicks run count =
     (site : Site) (panel : ℕ) (kept : Retained) (history : List NodeMoment) (ticks : List TickBlock)

@@ -28,14 +28,14 @@ TellsFrame Wrote run =
     (site : Site) (panel : ℕ) (kept : Retained) (history : List NodeMoment) (ticks : List TickBlock)
     → RunsFor site panel kept history ticks run → Wrote (frame_told site run.node.digest panel kept history)
 
--- or the part in the text of the tick that was run last
+-- what was written, in this way, is the part of the panel in the text of the tick that was run last
 abbrev pub TellsTick : (List ℕ → Type 0) → NodeRun → Type 0
 TellsTick Wrote run =
     (site : Site) (panel : ℕ) (kept : Retained) (before after : List NodeMoment) (ticks : List TickBlock)
     → RunsFor site panel kept after ticks run → IsAtHand site panel kept before after Tick run
     → Wrote (tick_part site run.node.digest panel kept before after)
 
--- or a reply
+-- what was written, in this way, is a reply of the panel
 abbrev pub TellsReply : (List ℕ → Type 0) → Reply → NodeRun → Type 0
 TellsReply Wrote reply run =
     (site : Site) (panel : ℕ) (kept : Retained) (before after : List NodeMoment) (ticks : List TickBlock)

@@ -7,7 +7,8 @@ use Rattle.panel_edges.specs.Contents.{Consumes}
 abbrev pub most_input_bytes : ℕ
 most_input_bytes = most_block_bytes + 1
 
--- these bytes were read: where it is told what there was, the first of it, as many as are looked at, or all
+-- these bytes were read of a connection: where it is told what there was, the first of it, as many as are looked at, or
+-- all
 pub record ReadsInput (left rest : Option (List ℕ)) (bytes : List ℕ) : Type 0 where
   pub consumed : Consumes left rest bytes
   pub first : IfSome left (λ all. bytes ≡ take most_input_bytes all)

@@ -46,8 +46,8 @@ abbrev pub without_faults : Facts → Facts
 without_faults facts =
     record { released = facts.released; by_hand = facts.by_hand; faulty = λ source. false }
 
--- so is one whose marker is true over the words that were kept at each moment of the tick, of the two before it and of
--- as many more as its delay has, with all faults taken as false
+-- an output that may be on is shown on in the face of its panel where its marker is true over the words kept at each
+-- moment of the tick, of the two before it and of as many more as its delay has, with all faults taken as false
 abbrev pub KeptThroughoutIsOn : Type 0
 KeptThroughoutIsOn =
     (site : Site) (kept : Retained) (history : List NodeMoment) (output : ℕ) (plan : Output)

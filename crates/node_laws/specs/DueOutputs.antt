@@ -23,7 +23,8 @@ pub record IsDueAtNode (site : Site) (panel : ℕ) (kept : Retained) (history : 
   pub asked : IsDueAskedByHand site kept (node_done site panel history kept) (befallen history) output
       ⊎ IsDueThrough site kept (node_done site panel history kept) (befallen history) output
 
--- it is shown on in the face of its panel
+-- an output that is due to be on is shown on in the face of its panel, where nothing was reported on the points of the
+-- other panels
 abbrev pub DueAtNodeIsOn : Type 0
 DueAtNodeIsOn =
     (site : Site) (kept : Retained) (history : List NodeMoment) (output : ℕ) (plan : Output)

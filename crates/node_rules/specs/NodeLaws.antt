@@ -48,7 +48,7 @@ FramesAreShown =
     then (framed_word source frame).alarm
     else slice_index (node_face site panel history kept).zones (source - 1))
 
--- and they stay shown while no frame comes
+-- the zones of another panel stay shown as they are while no frame comes
 abbrev pub ZonesStayShown : Type 0
 ZonesStayShown =
     (site : Site) (panel : ℕ) (kept : Retained) (history : List NodeMoment) (moment : Moment) (source : ℕ)
@@ -82,7 +82,7 @@ AreFramesTo site panel [] = Unit {0}
 AreFramesTo site panel (Befell moment ∷ before) = AreFramesTo site panel before
 AreFramesTo site panel (FrameCame frame ∷ before) = IsFrame site panel frame × AreFramesTo site panel before
 
--- so each that it sends is one that its neighbours may get
+-- where each frame that came is one that the panel may get, each that it sends is one that its neighbours may get
 abbrev pub FramesStayInGrammar : Type 0
 FramesStayInGrammar =
     (site : Site) (kept : Retained) (panel at : ℕ) (history : List NodeMoment)

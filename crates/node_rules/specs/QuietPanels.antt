@@ -22,7 +22,7 @@ HasQuietPoints site panel (Happened event ∷ before) = IsElsewhere site panel e
 HasQuietPoints site panel (Turned other task ∷ before) = HasQuietPoints site panel before
 HasQuietPoints site panel (Kept failed ∷ before) = HasQuietPoints site panel before
 
--- such a panel never enters the fire alarm condition, so no turn of Keep commits a count of it
+-- a panel whose points had no report never enters the fire alarm condition, so no turn of Keep commits a count of it
 abbrev pub QuietPanelsHaveNoEntries : Type 0
 QuietPanelsHaveNoEntries =
     (site : Site) (kept : Retained) (done : List Done) (panel : ℕ) (moments : List Moment)

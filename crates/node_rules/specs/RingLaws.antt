@@ -25,7 +25,8 @@ history_in_ring site kept panel before =
     ring_history site kept (operations site kept before).done
     (tells_fault site kept (operations site kept before).done) panel before
 
--- its own word is the ring's, with what that tells of faults
+-- a panel that gets the frames of the ring, with its links up all the time, has as its own word the ring's, with what
+-- that tells of faults
 abbrev pub OwnWordOfTheRing : Type 0
 OwnWordOfTheRing =
     (site : Site) (kept : Retained) (panel : ℕ) (before : List Moment)
@@ -34,7 +35,7 @@ OwnWordOfTheRing =
     ≡ kept_word_of site kept (operations site kept before).done
     (tells_fault site kept (operations site kept before).done) panel panel before
 
--- and it shows what it would show in the ring
+-- a panel that gets the frames of the ring, with its links up all the time, shows what it would show in the ring
 abbrev pub FaceOfTheRing : Type 0
 FaceOfTheRing =
     (site : Site) (kept : Retained) (panel : ℕ) (before : List Moment)

@@ -79,7 +79,7 @@ pub record CanAsk (panel level : ℕ) (operation : Operation) (desk : Desk) : Ty
   pub count : slice_index desk.counts (panel - 1) ≤ desk.number
   pub room : slice_index desk.counts (panel - 1) < most_operations → length desk.asked.items < 32
 
--- it was asked for; four at most are kept of a panel
+-- an operation was asked for; four at most are kept of a panel
 pub record Asks (panel level : ℕ) (operation : Operation) (old new : Desk) : Type 0 where
   pub tick : new.tick ≡ old.tick
   pub number : new.number ≡ old.number + 1
@@ -95,7 +95,7 @@ pub record Asks (panel level : ℕ) (operation : Operation) (old new : Desk) : T
 abbrev pub firsts_of : ℕ → List Request → List RequestOf
 firsts_of panel asked = filter (λ (r : RequestOf). r.panel == panel) (requests_from asked)
 
--- they were taken
+-- the first operations of a panel were taken
 abbrev pub TakesOwn : Site → Retained → ℕ → Desk → Desk → Type 0
 TakesOwn site settings panel old new =
     (kept : Retained) (before : List Moment) → DesksFor site kept before old
@@ -110,7 +110,7 @@ answered_so_far tick failed count start =
       done = if failed then start.done else do_all tick (take count start.waiting) start.done;
     }
 
--- so many of those that wait were answered, none of them that its panel was busy
+-- so many of the operations that wait were answered, none of them that its panel was busy
 pub record HasAnswered (site : Site) (kept : Retained) (failed : Bool) (count : ℕ) (before : List Moment) (desk :
     Desk) : Type 0 where
   pub told : TellsOutcomes site kept (requests site before) (tick_of before)
@@ -121,7 +121,7 @@ pub record HasAnswered (site : Site) (kept : Retained) (failed : Bool) (count : 
       ≡ busy_count panel (given_in site kept (tick_of before) (operations site kept before).answers
       (requests site before))
 
--- all of them were
+-- all operations that wait were answered, none of them that its panel was busy
 abbrev pub AnswersWaiting : Bool → Desk → Desk → Type 0
 AnswersWaiting failed old new =
     (site : Site) (kept : Retained) (before : List Moment) → DesksFor site kept before old

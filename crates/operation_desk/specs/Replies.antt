@@ -32,7 +32,7 @@ abbrev pub AreInForce : Site → Retained → ℕ → List Done → Retained →
 AreInForce site kept tick done settings = (setting : Setting) → IsSetting setting
     → at_opening site settings setting ≡ in_force site kept setting tick done
 
--- those that wait and were done in a tick are what became of operations
+-- the operations that wait and those that were done in a tick are what became of operations
 pub record TellsOpen (tick : ℕ) (so_far : Operations) (waiting : List Request) (done : List DoneOperation) :
     Type 0 where
   pub waiting_is : requests_from waiting ≡ so_far.waiting

@@ -20,7 +20,7 @@ use Rattle.operation_desk.specs.declared.request.Request.{Request}
 use Rattle.operation_desk.specs.Replies.{AreInForce, TellsOpen}
 use Rattle.operation_desk.specs.Requests.{is_early, request_from, requests_from}
 
--- those asked for are numbered by their places, from one on
+-- the operations asked for are numbered by their places, the first by the number that follows a past one
 abbrev pub AreNumberedByPlace : ℕ → List RequestOf → Type 0
 AreNumberedByPlace past asked = (k : ℕ) (r : RequestOf) → slice_get asked k ≡ Some r → r.number ≡ past + k + 1
 

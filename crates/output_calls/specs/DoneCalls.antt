@@ -12,7 +12,7 @@ use Rattle.panel_rules.specs.Operations.{operations}
 abbrev pub IsLatestFirst : List Done → Type 0
 IsLatestFirst done = IsFalling (map (λ (d : Done). d.tick) done)
 
--- so it is with the operations of a run
+-- of the operations done in a run none was done in a later tick than those that stand ahead of it
 abbrev pub DoneIsLatestFirst : Type 0
 DoneIsLatestFirst = (site : Site) (kept : Retained) (moments : List Moment)
     → IsLatestFirst (operations site kept moments).done

@@ -28,7 +28,7 @@ ConfirmedMaskByCalls =
     (λ k. is_confirmed (state_of site panel limit (k + 1) (routing_calls site facts kept done panel moments)))
     ≡ outputs_where site panel (λ output. is_confirmed_out site facts kept done output moments)
 
--- those that are unconfirmed
+-- the mask of the outputs of a panel that are unconfirmed, by the calls of a run, is that of the rules
 abbrev pub UnconfirmedMaskByCalls : Type 0
 UnconfirmedMaskByCalls =
     (site : Site) (facts : ℕ → List Moment → Facts) (kept : Retained) (done : List Done) (panel : ℕ)
