@@ -38,7 +38,7 @@ UnconfirmedMaskByCalls =
     (state_of site panel (routing_of site.format) (k + 1) (routing_calls site facts kept done panel moments)))
     ≡ outputs_where site panel (λ output. is_unconfirmed site facts kept done output moments)
 
--- those that pass the delays at a turn of Drive made now
+-- the outputs of a panel that pass the delays at a turn of Drive made now
 abbrev pub ThroughMaskByCalls : Type 0
 ThroughMaskByCalls =
     (site : Site) (facts : ℕ → List Moment → Facts) (kept : Retained) (done : List Done) (panel : ℕ) (before :

@@ -19,7 +19,7 @@ TellsOn drive mask =
     List Moment) → DrivesFor site facts kept done panel before drive
     → mask ≡ outputs_where site panel (λ output. is_on site facts kept done output before)
 
--- those that are confirmed, in a run with events of the site
+-- the outputs that are confirmed, in a run with events of the site
 abbrev pub TellsConfirmed : Drive → ℕ → Type 0
 TellsConfirmed drive mask =
     (site : Site) (facts : ℕ → List Moment → Facts) (kept : Retained) (done : List Done) (panel : ℕ) (before :
@@ -27,7 +27,7 @@ TellsConfirmed drive mask =
     → AreEventsOf site before
     → mask ≡ outputs_where site panel (λ output. is_confirmed_out site facts kept done output before)
 
--- those that are unconfirmed, in a run
+-- the outputs that are unconfirmed, in a run
 abbrev pub TellsUnconfirmed : Drive → ℕ → Type 0
 TellsUnconfirmed drive mask =
     (site : Site) (facts : ℕ → List Moment → Facts) (kept : Retained) (done : List Done) (panel : ℕ) (before :

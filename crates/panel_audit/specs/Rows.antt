@@ -10,7 +10,7 @@ use Rattle.due_zones.specs.declared.least_signals.LeastSignals.{LeastSignals}
 use Rattle.zone_signals.specs.StandsFor.{StandsFor}
 use Rattle.zone_signals.specs.declared.zone_signals.ZoneSignals.{ZoneSignals}
 
--- those of all zones decide at which panels the zones are due, whatever befell
+-- the least signals told of all zones decide at which panels the zones are due, whatever befell
 abbrev pub TellsRows : Site → ZoneSignals → List LeastSignals → Type 0
 TellsRows site least rows = (kept : Retained) (operations : List DoneOperation) (moments : List Moment)
     → StandsFor site kept operations moments least

@@ -82,14 +82,16 @@ pub record HeardSolved (site : Site) (heard : List AskedMarkers) : Type 0 where
   pub size : length heard ≡ 8
   pub each : (place : ℕ) (asked : AskedMarkers) → slice_get heard place ≡ Some asked → GoesBy site asked.facts asked
 
--- those of the panel at a place are, and where it shows an output as on, the facts are all that it may have heard
+-- the markers of the panel at a place are solved over some facts, and where the panel shows an output as on, these
+-- facts are all that it may have heard
 pub record IsHeardAt (site : Site) (causes : ShownCauses) (joined : JoinedPanels) (faces : List Face) (place : ℕ)
     (asked : AskedMarkers) : Type 0 where
   pub solved : GoesBy site asked.facts asked
   pub told : (slice_index_or faces place (empty_face (place + 1))).outputs ≢ 0
       → TellsHeard causes joined site (place + 1) asked.facts
 
--- those of each panel
+-- the markers of each panel are solved over some facts, and where the panel shows an output as on, these facts are all
+-- that it may have heard
 pub record HaveHeard (site : Site) (causes : ShownCauses) (joined : JoinedPanels) (faces : List Face) (heard : List
     AskedMarkers) : Type 0 where
   pub size : length heard ≡ 8

@@ -2,7 +2,7 @@
 use Rattle.std.specs.Prelude.{◌≡◌, ℕ, ◌<◌, ◌≤◌, List, length, Some, slice_get}
 use Rattle.face_text.specs.declared.step.Step.{Step}
 
--- so many steps are those of the ticks up to one
+-- the first steps of a text, so many of them, are those of the ticks up to one
 pub record ReadsUpTo (steps : List Step) (tick count : ℕ) : Type 0 where
   pub within : count ≤ length steps
   pub read : (place : ℕ) (step : Step) → place < count → slice_get steps place ≡ Some step → step.tick.0 ≤ tick

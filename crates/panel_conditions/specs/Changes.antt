@@ -45,7 +45,7 @@ NotesOperation old tick hold =
     → HoldsFor site kept panel done turns old → MayNote site panel turns d → d.tick ≡ tick
     → HoldsFor site kept panel (d ∷ done) turns hold
 
--- these findings are taken after those before
+-- all that is kept of findings and operations takes these findings after those that were taken before
 abbrev pub WatchesMore : Hold → List Finding → Hold → Type 0
 WatchesMore old findings hold =
     (site : Site) (kept : Retained) (panel : ℕ) (done : List Done) (taken : List Finding)
@@ -71,7 +71,7 @@ ZonesStaySettled old zones =
     (site : Site) (panel : ℕ) (done : List Done) (taken : List Finding) (tick : ℕ)
     → WatchesZones site panel done taken old.watches.items → Settled tick old → Settled tick zones
 
--- so do those of all that is kept
+-- in all that is kept, zones that were settled stay so, whatever findings they tell of
 abbrev pub StaysSettled : Hold → Hold → Type 0
 StaysSettled old hold =
     (site : Site) (kept : Retained) (panel : ℕ) (done : List Done) (taken : List Finding) (tick : ℕ)

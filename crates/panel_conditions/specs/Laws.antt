@@ -55,7 +55,7 @@ FindingsTellMissing =
     (site : Site) (kept : Retained) (panel place : ℕ) (done : List Done) (answers : List Answer)
     → missing_found (findings_of site kept panel done answers) place ≡ is_missing answers place
 
--- so the word of a panel goes by the answers whose findings it took
+-- the word of a panel goes by the answers whose findings the panel took
 abbrev pub AnswersTellWord : Type 0
 AnswersTellWord =
     (site : Site) (kept : Retained) (panel tick : ℕ) (done : List Done) (answers : List Answer) (fault : Bool)
@@ -63,7 +63,7 @@ AnswersTellWord =
     → word_at site panel done (findings_of site kept panel done answers) tick fault
     ≡ answered_word site kept panel done answers tick fault
 
--- its faults go by the answers whose findings it took
+-- the faults of a panel go by the answers whose findings the panel took
 abbrev pub AnswersTellFaults : Type 0
 AnswersTellFaults =
     (site : Site) (kept : Retained) (panel tick : ℕ) (done : List Done) (answers : List Answer) (outside :

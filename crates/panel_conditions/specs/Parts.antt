@@ -146,7 +146,7 @@ signs_at tick watches =
 
 -- ---- points
 
--- these points from the opening on
+-- a set of points that may change, with these points in it from the opening on
 abbrev pub points_from : PointSet → PointSwitch
 points_from points = record { before = points; after = points; since = record { 0 = 0 } }
 

@@ -29,7 +29,7 @@ put_at (Some at) on set = if is_place at then with_point set at.line at.address 
 abbrev pub either_line : List ℕ → List ℕ → List ℕ
 either_line a b = bit_or (slice_index a 0) (slice_index b 0) ∷ bit_or (slice_index a 1) (slice_index b 1) ∷ []
 
--- those with the points of the first that aren't in the second
+-- the two numbers of a loop with the points of a first set that aren't in a second one
 abbrev pub line_without : List ℕ → List ℕ → List ℕ
 line_without a b = bit_and (slice_index a 0) (bit_not w128 (slice_index b 0))
     ∷ bit_and (slice_index a 1) (bit_not w128 (slice_index b 1)) ∷ []
@@ -62,7 +62,7 @@ set_without a b =
           ∷ [];
     }
 
--- these points put in or taken out; none where there is no such set
+-- the set with all points of another one put in or taken out; it stays where there is no other
 abbrev pub put_all : Option PointSet → Bool → PointSet → PointSet
 put_all None on set = set
 put_all (Some points) on set = if on then either_set set points else set_without set points

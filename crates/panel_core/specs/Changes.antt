@@ -76,7 +76,7 @@ MakesTurns old seats system =
 abbrev pub seats_between : ℕ → ℕ → List Seat → List Seat
 seats_between from to order = drop from (take to order)
 
--- none of them is Keep's
+-- none of the seats is Keep's
 abbrev pub AreOfPanels : List Seat → Type 0
 AreOfPanels seats = AllByRecursion (λ (seat : Seat). seat.task ≢ Keep) seats
 

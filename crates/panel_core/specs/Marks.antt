@@ -38,7 +38,7 @@ abbrev pub AreMarked : Site → Retained → List Moment → List Bool → Type 
 AreMarked site kept moments marks =
     (panel : ℕ) → IsPanel site.panels panel → is_marked marks panel ≡ false → ShowsSame site kept moments panel
 
--- it is told of a panel that it hasn't changed only where it shows what it showed then
+-- it is told of a panel that it hasn't changed only where it shows what it showed at the end of the tick before
 abbrev pub TellsSame : System → ℕ → Bool → Type 0
 TellsSame system panel changed =
     (site : Site) (kept : Retained) (moments : List Moment)
@@ -104,13 +104,13 @@ MarksAllTurns old order journal store marks =
 
 -- ---- marks are raised, and none is lowered
 
--- that of one panel where it shows something else
+-- the mark of one panel is raised where it shows something else; no mark is lowered, and nothing but marks changes
 pub record RaisesMark (old : System) (panel : ℕ) (differs : Bool) (system : System) : Type 0 where
   pub rest : system ≡ record old { changed = system.changed }
   pub unmarked : (other : ℕ) → is_marked system.changed other ≡ false → is_marked old.changed other ≡ false
   pub same : is_marked system.changed panel ≡ false → differs ≡ false
 
--- those of all panels where some show something else
+-- the marks of all panels are raised where some show something else; no mark is lowered, and nothing but marks changes
 pub record RaisesMarks (old : System) (differ : Bool) (system : System) : Type 0 where
   pub rest : system ≡ record old { changed = system.changed }
   pub unmarked : (other : ℕ) → is_marked system.changed other ≡ false → is_marked old.changed other ≡ false

@@ -41,14 +41,14 @@ pub record IsFront (site : Site) (kept : Retained) (moments : List Moment) (stat
 abbrev pub OpensTo : Site → List ℕ → Retained → List ℕ → Type 0
 OpensTo site digest state file = opened (is_wide site) digest file ≡ Opens state
 
--- it opens to a front of a run
+-- a file opens to a front of a run, that is to a state that a power cut may leave
 pub record OpensToFront (site : Site) (kept : Retained) (digest : List ℕ) (moments : List Moment) (file : List ℕ) :
     Type 0 where
   pub state : Retained
   pub front : IsFront site kept moments state
   pub opens : OpensTo site digest state file
 
--- or to what is kept with this whole batch
+-- a file opens to a front of a run, or to what is kept after the run with this whole batch
 abbrev pub OpensToFrontOr : Site → Retained → List ℕ → List Moment → List Change → List ℕ → Type 0
 OpensToFrontOr site kept digest moments changes file =
     OpensToFront site kept digest moments file

@@ -55,7 +55,7 @@ OfEachZone system Holds =
     AfterEachTick system (λ site kept moments. (zone : ℕ) (plan : Zone) → slice_get site.zones zone ≡ Some plan
     → Holds site kept moments zone plan)
 
--- and of each output
+-- in each run that the system stands for, at the end of a tick, of each output of its site
 abbrev pub OfEachOutput : System → (Site → Retained → List Moment → ℕ → Output → Type 0) → Type 0
 OfEachOutput system Holds =
     AfterEachTick system (λ site kept moments. (output : ℕ) (plan : Output)

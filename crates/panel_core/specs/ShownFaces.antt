@@ -36,12 +36,12 @@ ShowsByWords told system panel zones =
     → zones ≡ map (λ source. told (shown_word site kept (done_so_far site kept before) panel before source))
     (range_with_len 1 most_panels)
 
--- those in alarm and those in first state
+-- the zones of each panel that are in alarm and those in first state, by the words that are shown
 pub record ShowsZones (system : System) (panel : ℕ) (zones : ShownZones) : Type 0 where
   pub alarms : ShowsByWords (λ (word : Word). word.alarm) system panel zones.alarms
   pub firsts : ShowsByWords (λ (word : Word). word.first) system panel zones.firsts
 
--- so only one value meets it, for each run that the system stands for
+-- a panel can show only one face by the rules, for each run that the system stands for
 abbrev pub FacesArePinned : Type 0
 FacesArePinned =
     (system : System) (panel : ℕ) (face other : Face) (site : Site) (kept : Retained) (before : List Moment)

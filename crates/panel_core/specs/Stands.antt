@@ -70,7 +70,8 @@ pub record HasApplied (site : Site) (kept : Retained) (before : List Moment) (do
   pub sized : IsSized system.settings
   pub own : HasNoStrangeBits site system.settings
 
--- and the outputs of each panel have taken what was done in the tick that ends
+-- at the end of a tick the panels and settings of the system have all operations done so far applied, and the outputs
+-- of each panel have taken what was done in that tick
 pub record HasBegunPanels (site : Site) (kept : Retained) (before : List Moment) (system : System) : Type 0 where
   pub valid : IsValid site
   pub same : system.site ≡ site
@@ -149,7 +150,7 @@ pub record MayHappen (event : Event) (system : System) : Type 0 where
   pub has : has_event site event ≡ true
   pub few : length (requests site before) < 2 ^ 64 - 1
 
--- it stands for some history of a site that has the panel
+-- the system stands for some history of a site that has the panel
 pub record HasPanel (panel : ℕ) (system : System) : Type 0 where
   pub site : Site
   pub kept : Retained

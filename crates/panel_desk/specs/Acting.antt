@@ -72,7 +72,7 @@ RepliesBy asked body sides disks reply old run =
     → HasRoomForTick ticks
     → HasReplied (λ after. Replies site asked body sides ticks after reply) site kept ticks disks reply old run
 
--- the same of a block
+-- a reply to a block was made, with what comes of the block, whatever ticks were run before
 abbrev pub RepliesToBlock : List ℕ → Disks → Reply → Run → Run → Type 0
 RepliesToBlock body disks reply old run =
     (site : Site) (kept : Retained) (ticks : List TickBlock) → Stands site kept (at_rest ticks) old

@@ -59,7 +59,7 @@ pub record IsUnderWay (tick : ℕ) (own : Running) : Type 0 where
   pub few : ticks < most_ticks
   pub next : tick ≡ ticks + 1
 
--- it was run
+-- a tick was run, which is the one behind those that were run before
 abbrev pub RunsTick : ℕ → Running → Running → Type 0
 RunsTick tick old own =
     (site : Site) (seed ticks : ℕ) → IsAfter site seed ticks old → ticks < most_ticks → tick ≡ ticks + 1

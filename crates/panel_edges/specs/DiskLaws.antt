@@ -153,7 +153,7 @@ bytes_in-push_sync (Synced ∷ log) = bytes_in-push_sync log
 
 -- ---- what a read gives
 
--- it is an image
+-- a crash may leave what a read gives after some calls, where it might leave what a read gave before them
 pub content_left : (images : List ℕ → Type 0) (old : List ℕ) (calls : List Call) → images old
     → may_leave images old calls (content old calls)
 content_left images old [] h = h

@@ -18,7 +18,7 @@ images_of disk c = left_by disk.start.items (log_of disk) c
 abbrev pub left_of : MemoryDisk → ℕ → List ℕ → Type 0
 left_of disk t c = left_after disk.start.items (log_of disk) t c
 
--- its moment is the number of calls in its log
+-- the moment of a disk is the number of calls in its log
 abbrev pub moment_of : MemoryDisk → ℕ
 moment_of disk = length (log_of disk)
 

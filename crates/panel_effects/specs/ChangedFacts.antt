@@ -42,7 +42,8 @@ RoseByFacts site before after =
     RoseByBoth (DependsOnChangedFact site before after)
     (DependsOnChangedFact site (hand_facts before) (hand_facts after))
 
--- the same of facts as masks
+-- with facts as masks, steps rose by the number of the markers that depend on one that changed, and by the number of
+-- those that depend on a changed one of what counts by hand
 abbrev pub RoseByMasks : Site → Masks → Masks → ℕ → ℕ → Type 0
 RoseByMasks site before after =
     RoseByBoth (DependsOnChanged site before after)

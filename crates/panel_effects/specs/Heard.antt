@@ -33,7 +33,7 @@ TurnsByWords plan ring panel old effects =
     → HasEffects site (facts_of site kept done) panel before old
     → HasEffects site (facts_of site kept done) panel (Turned panel Effect ∷ before) effects
 
--- its steps, by the facts of the panel's turn before and of this one
+-- the steps of a turn made by the words, by the facts of the panel's turn before and of this one
 abbrev pub RisesByWords : Plan → Ring → ℕ → Effects → ℕ → ℕ → Type 0
 RisesByWords plan ring panel old earlier later =
     (site : Site) (kept : Retained) (done : List Done) (before : List Moment) → IsPlanOf site plan

@@ -44,7 +44,7 @@ fullest_word site panel word =
     if nat_lt site.panels panel then empty_word
     else if word.stamp.0 == 0 then stamped_word 0 false else stamped_word (zones_of panel site.zones) true
 
--- the same for the word at a place of a frame
+-- the word at a place of a frame with every bit that its panel's word may have
 abbrev pub fullest_at : Site → Frame → ℕ → Word
 fullest_at site frame place =
     fullest_word site (4 * frame.group + 1 + place) (slice_index_or frame.words place empty_word)

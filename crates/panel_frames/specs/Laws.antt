@@ -17,7 +17,7 @@ ReadBytesArePrinted = (site : Site) (digest : List ℕ) (at : ℕ) (bytes : List
     → ((k : ℕ) → slice_index bytes k < 256) → frame_read site digest at bytes ≡ Ok frame
     → frame_bytes digest frame ≡ bytes
 
--- and the frame is in the grammar
+-- bytes that are read as a frame are read as one in the grammar
 abbrev pub ReadFramesAreInGrammar : Type 0
 ReadFramesAreInGrammar = (site : Site) (digest : List ℕ) (at : ℕ) (bytes : List ℕ) (frame : Frame)
     → ((k : ℕ) → slice_index bytes k < 256) → frame_read site digest at bytes ≡ Ok frame → IsFrame site at frame

@@ -8,7 +8,7 @@ use Rattle.panel_rules.specs.Markers.{Facts, IsSolution, solution}
 abbrev pub SolutionSolves : Type 0
 SolutionSolves = (site : Site) (facts : Facts) → HasNoCycle site → IsSolution site facts (solution site facts)
 
--- and all values that do are its values
+-- where no marker depends on itself, all values that satisfy the equation of each marker are those of the solution
 abbrev pub OneSolution : Type 0
 OneSolution = (site : Site) (facts : Facts) (values : ℕ → Bool) → HasNoCycle site
     → IsSolution site facts values → (marker : ℕ) → values marker ≡ solution site facts marker

@@ -80,7 +80,7 @@ AreEventsOf site (Happened event ∷ before) = AreEventsOf site before × (has_e
 AreEventsOf site (Turned panel task ∷ before) = AreEventsOf site before
 AreEventsOf site (Kept failed ∷ before) = AreEventsOf site before
 
--- so each operation is
+-- where each event is of the site, each operation asked for is at a panel of the site, which has what it names
 abbrev pub OperationsAreOfSite : Type 0
 OperationsAreOfSite = (site : Site) (moments : List Moment) → AreEventsOf site moments
     → AreOfSite site moments

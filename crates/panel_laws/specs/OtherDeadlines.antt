@@ -65,7 +65,8 @@ pub record IsAway (site : Site) (moments : List Moment) (point first : ℕ) : Ty
   pub away : (tick : ℕ) → first ≤ tick → tick ≤ tick_of moments → (state_of point (up_to tick moments) ≡ Gone)
       ⊎ (reached_at site point (up_to tick moments) ≡ false)
 
--- such a point is shown as missing, where neither it nor its zone is disabled
+-- a point that was gone or not reached for the profile's ticks of a fault up to now is shown as missing, where neither
+-- it nor its zone is disabled
 abbrev pub AwayIsMissing : Type 0
 AwayIsMissing =
     (site : Site) (kept : Retained) (done : List Done) (stored : Retained) (moments : List Moment)
@@ -82,7 +83,7 @@ pub record IsBadThrough (site : Site) (moments : List Moment) (panel : ℕ) (kin
   pub long : first + wait_of kind site.waits + fault_of site.format ≤ tick_of moments + 1
   pub bad : (tick : ℕ) → first ≤ tick → tick ≤ tick_of moments → is_bad panel kind (up_to tick moments) ≡ true
 
--- its fault is shown
+-- the fault of a supply that was bad for its wait and the profile's ticks of a fault up to now is shown
 abbrev pub BadSupplyIsShown : Type 0
 BadSupplyIsShown =
     (site : Site) (kept : Retained) (done : List Done) (stored : Retained) (moments : List Moment) (panel :

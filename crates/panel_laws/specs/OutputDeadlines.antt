@@ -51,7 +51,8 @@ pub record IsIndicated (site : Site) (kept : Retained) (done : List Done) (momen
       (own_facts site kept done (panel_of_output site output) (Turned (panel_of_output site output) Hold
       ∷ before)) ≡ true
 
--- it is on that soon after the indication
+-- an output without a delay, not disabled and not a quiet sounder, is on once each word of its own panel has asked for
+-- it in the last ticks of the profile
 abbrev pub IndicatedOutputIsOn : Type 0
 IndicatedOutputIsOn =
     (site : Site) (kept : Retained) (done : List Done) (moments : List Moment) (output : ℕ) → IsValid site

@@ -80,7 +80,8 @@ pub record IsSignalled (site : Site) (kept : Retained) (done : List Done) (momen
   pub faults : (source : ℕ) → facts.faulty source ≡ false
   pub asks : is_true_over site output facts ≡ true
 
--- it is shown on: on the own panel after the signal's ticks, on a joined one after the network's
+-- an output without a delay, neither disabled nor a quiet sounder, is shown on where zones that signal make its marker
+-- true by themselves: those of its own panel after the signal's ticks, those of a joined one after the network's
 abbrev pub SignalledOutputIsOn : Type 0
 SignalledOutputIsOn =
     (site : Site) (kept : Retained) (done : List Done) (stored : Retained) (moments : List Moment)

@@ -32,7 +32,7 @@ pub record NodeHasTurned (site : Site) (panel : ℕ) (kept : Retained) (history 
   pub keeps : KeepsRun site kept (befallen history) journal
   pub answers : store ≡ store_of (keep_answer (has_failed store) (batch site kept (before_keep (befallen history))))
 
--- it stands for some run up to the last tick
+-- a panel by itself stands for some run up to the last tick
 pub record MayMakeBatch (node : Node) : Type 0 where
   pub site : Site
   pub panel : ℕ

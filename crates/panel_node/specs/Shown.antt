@@ -33,7 +33,7 @@ SendsFrame node frame =
     → NodeStandsFor site panel kept history node → IsRun site.panels (befallen history)
     → frame ≡ node_frame site panel history kept
 
--- and one that each of them may get
+-- up to the last tick, what a panel by itself hands to its neighbours is a frame that each of them may get
 abbrev pub StaysInGrammar : Node → Frame → Type 0
 StaysInGrammar node frame =
     (site : Site) (panel at : ℕ) (kept : Retained) (history : List NodeMoment)
@@ -68,7 +68,7 @@ ShowsByWords told node zones =
     → NodeStandsFor site panel kept history node → IsRun site.panels (befallen history)
     → zones ≡ map (λ source. told (node_shows site panel kept history source)) (range_with_len 1 most_panels)
 
--- those in alarm and those in first state
+-- the zones of each panel that are in alarm and those in first state, by the words that are shown
 pub record ShowsZones (node : Node) (in_alarm in_first : List ℕ) : Type 0 where
   pub alarms : ShowsByWords (λ (word : Word). word.alarm) node in_alarm
   pub firsts : ShowsByWords (λ (word : Word). word.first) node in_first

@@ -125,7 +125,7 @@ pub record MayTurnOwn (node : Node) : Type 0 where
   pub run : IsRun site.panels (and_turns false (panel_seats panel) (befallen history))
   pub few : tick_of (befallen history) ≤ last_tick
 
--- it stands for some history
+-- a panel by itself stands for some history
 pub record StandsForHistory (node : Node) : Type 0 where
   pub site : Site
   pub panel : ℕ

@@ -12,7 +12,7 @@ use Rattle.panel_rules.specs.Operations.{operations}
 abbrev pub done_so_far : Site → Retained → List Moment → List Done
 done_so_far site kept before = (operations site kept before).done
 
--- and what of it was done before this tick
+-- of all that was done so far, what was done before the tick that began last
 abbrev pub applied : Site → Retained → List Moment → List Done
 applied site kept before = filter (λ (d : Done). nat_lt d.tick (tick_of before)) (done_so_far site kept before)
 

@@ -183,7 +183,7 @@ AnswersIfNode words files disk door old new outcome =
     (panel port count : ℕ) → command_of (map string_bytes words) ≡ Node panel port count
     → AnswersNode (site_word (map string_bytes words)) panel files disk door count old new outcome
 
--- and it ends with a door fault only where the door's count of faults rose
+-- serving a panel by itself ends with a door fault only where the door's count of faults rose
 abbrev pub BlamesDoorIfNode : List (String Global) → Outcome → ℕ → ℕ → Type 0
 BlamesDoorIfNode words outcome before after =
     (panel port count : ℕ) → command_of (map string_bytes words) ≡ Node panel port count
@@ -203,6 +203,6 @@ AsksNothing words = (command_of (map string_bytes words) ≢ Import) × ServesNo
 abbrev pub WorksNothing : List (String Global) → Type 0
 WorksNothing words = RunsNothing words × ServesNothing words
 
--- and one that doesn't move either leaves it alone
+-- a command that neither runs, serves nor moves leaves the first disk alone
 abbrev pub KeepsNothing : List (String Global) → Type 0
 KeepsNothing words = WorksNothing words × MovesNothing words

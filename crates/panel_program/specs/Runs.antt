@@ -205,7 +205,7 @@ abbrev pub Ran : Site → List ℕ → JournalDisk → Input → List ℕ → Op
 Ran site digest disk input bytes old new outcome =
     StopsAtJournal site digest disk input old new outcome ⊎ RanKept site digest disk input bytes old new outcome
 
--- the same, where the input tells the bytes of the record
+-- what a run of a site over the bytes of a record came to, by what its disk holds, where the input tells these bytes
 abbrev pub RanOver : Site → List ℕ → JournalDisk → Streams → Outcome → Type 0
 RanOver site digest disk streams outcome = IfSome streams.input.before (λ bytes.
     Ran site digest disk streams.input bytes streams.old streams.new outcome)

@@ -34,7 +34,7 @@ pub record MayCome (site : Site) (p : Progress) (line : Line) : Type 0 where
   pub next : IsNext line (length (closed false p))
   pub short : AreFew (moments_in (after_line site false p (line_view line)))
 
--- it may come to a run that stands for something
+-- a line may come to a run that stands for something
 pub record MayTake (line : Line) (run : Run) : Type 0 where
   pub site : Site
   pub kept : Retained
@@ -113,7 +113,7 @@ HasTakenStep step disks old new before run result =
 abbrev pub IsGoing : Site → List ℕ → Type 0
 IsGoing site bytes = (reading_of site bytes).ending ≡ None
 
--- so many bytes may be read of a record
+-- bytes are no more than may be read of a record
 abbrev pub AreWithin : List ℕ → Type 0
 AreWithin bytes = length bytes ≤ most_record_bytes
 
@@ -142,7 +142,7 @@ pub record MayPiece (piece : List ℕ) (reader : LineReader) (run : Run) : Type 
   pub at : IsAtSome reader run
   pub within : AreWithin (at.bytes ++ piece)
 
--- these bytes end a run so
+-- the bytes of a record end a run in this way: with its end or a refusal, not with too many bytes or a failed read
 abbrev pub EndsAt : Site → List ℕ → RunEnd → Type 0
 EndsAt site bytes Ended = (reading_of site bytes).ending ≡ Some OverEnded
 EndsAt site bytes (Refused refusal) = (reading_of site bytes).ending ≡ Some (OverRefused refusal)
