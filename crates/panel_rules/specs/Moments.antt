@@ -34,7 +34,8 @@ has_turned panel task (Turned other_panel other ∷ before) =
     if is_turn panel task other_panel other then true else has_turned panel task before
 has_turned panel task (Kept failed ∷ before) = has_turned panel task before
 
--- the same for Keep, which has one turn for the whole site
+-- whether Keep, which has one turn for the whole site, has had it in the tick that began last; before the first tick
+-- nothing is owed
 abbrev pub has_kept : List Moment → Bool
 has_kept [] = true
 has_kept (Began ∷ before) = false

@@ -9,7 +9,8 @@ abbrev pub AreOrdered : ℕ → List TickBlock → Type 0
 AreOrdered panels [] = Unit {0}
 AreOrdered panels (tick ∷ ticks) = AreOrdered panels ticks × IsOrder panels tick.order
 
--- such a record is a run, and each seat has had its turn in its last tick
+-- a record whose ticks have an order of the site's seats each is a run, and each seat has had its turn in its last
+-- tick
 abbrev pub RecordsAreRuns : Type 0
 RecordsAreRuns = (panels : ℕ) (ticks : List TickBlock) → AreOrdered panels ticks
     → IsRun panels (moments ticks) × HaveAllTurned panels (moments ticks)

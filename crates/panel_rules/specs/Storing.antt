@@ -14,7 +14,7 @@ abbrev pub turn_fails : Bool → Bool → List Change → Bool → Bool
 turn_fails torn mending_fails changes committing_fails =
     (torn && mending_fails) || (has_batch changes && committing_fails)
 
--- it fails only where a call of the disk failed in it: the count of failed calls has risen from before to
+-- a turn of Keep fails only where a call of the disk failed in it: the count of failed calls has risen from before to
 -- after the turn, or stands at its last value
 abbrev pub FailsByTheDisk : Bool → ℕ → ℕ → Type 0
 FailsByTheDisk failed before after = failed ≡ true → Rose before after

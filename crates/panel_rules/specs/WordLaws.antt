@@ -16,8 +16,8 @@ KeptByTheRing =
     → kept_word site.panels source panel (ring_calls site kept done told moments) ≡ kept_word_of site kept
     done told panel source moments
 
--- it is the word of the greatest stamp over all chains of turns of Link from the other panel, over links that
--- were up, in ticks that carried it
+-- the word that a panel keeps of another is the one of the greatest stamp over all chains of turns of Link from the
+-- other panel, over links that were up, in ticks that carried it, or the empty one
 abbrev pub NewestOverChains : Type 0
 NewestOverChains =
     (site : Site) (kept : Retained) (done : List Done) (told : ℕ → List Moment → Bool) (moments : List Moment)

@@ -28,7 +28,7 @@ Hears site moment earlier later =
     (panel : ℕ) (history : List Moment) → StandsForAsking site panel history earlier
     → StandsForAsking site panel (moment ∷ history) later
 
--- the same in a tick
+-- a moment more in a tick stands in the answers, whatever the panel and what befell before
 abbrev pub HearsIn : Site → ℕ → Moment → Asking → Asking → Type 0
 HearsIn site tick moment earlier later =
     (panel : ℕ) (history : List Moment) → StandsForAsking site panel history earlier → tick_of history ≡ tick

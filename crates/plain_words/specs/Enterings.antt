@@ -22,11 +22,11 @@ pub record StandsForEntering (site : Site) (kept : Retained) (done : List Done) 
   pub latest : entering.held_at.0 ≡ latest_turn panel Hold history
   pub count : entering.entries ≡ length (new_entries site kept done panel history)
 
--- those of some panel after some history
+-- entries whose answers are those of some panel of a site after some history
 abbrev pub EntersSome : Site → Entering → Type 0
 EntersSome site entering = AsksSome site entering.asking
 
--- those of some panels, by number from a first on
+-- the entries of some panels of a site, by number from a first on, after a history, where some operations were done
 abbrev pub AllEnter : Site → Retained → List Done → List Moment → ℕ → List Entering → Type 0
 AllEnter site kept done history first [] = Unit {0}
 AllEnter site kept done history first (entering ∷ rest) =
@@ -41,7 +41,7 @@ abbrev pub AllAsk : Site → List Entering → Type 0
 AllAsk site [] = Unit {0}
 AllAsk site (entering ∷ rest) = EntersSome site entering × AllAsk site rest
 
--- those of all panels of the site
+-- the entries of all panels of a site after a history, where some operations were done
 pub record AreEntering (site : Site) (kept : Retained) (done : List Done) (history : List Moment) (panels :
     List Entering) : Type 0 where
   pub all : AllEnter site kept done history 1 panels

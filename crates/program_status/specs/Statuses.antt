@@ -27,15 +27,16 @@ number_of exit.KeeperFault = 15
 abbrev pub BlamesReads : Outcome → ℕ → ℕ → Type 0
 BlamesReads outcome before after = outcome.status ≡ number_of exit.ReadFault → Rose before after
 
--- and with a write fault only where that of the output has
+-- a command ends with a write fault only where the count of those of the output has risen, or stands at its last value
 abbrev pub BlamesWrites : Outcome → ℕ → ℕ → Type 0
 BlamesWrites outcome before after = outcome.status ≡ number_of exit.WriteFault → Rose before after
 
--- and with a disk fault only where that of a disk has
+-- a command ends with a disk fault only where the count of those of a disk has risen, or stands at its last value
 abbrev pub BlamesDisk : Outcome → ℕ → ℕ → Type 0
 BlamesDisk outcome before after = outcome.status ≡ number_of exit.DiskFault → Rose before after
 
--- and with a keeper fault only where that of the keeper has
+-- a command ends with a keeper fault only where the count of those of the keeper has risen, or stands at its last
+-- value
 abbrev pub BlamesKeeper : Outcome → ℕ → ℕ → Type 0
 BlamesKeeper outcome before after = outcome.status ≡ number_of exit.KeeperFault → Rose before after
 

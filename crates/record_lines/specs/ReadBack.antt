@@ -88,7 +88,8 @@ pub record Brings (site : Site) (reader : LineReader) (line : Line) (piece : Lis
   pub text : HasInFront (line_text site line) piece used
   pub may_come : MayCome site reader.so_far line
 
--- the same for the line of an order with these seats, which need not be the site's
+-- a reader that has nothing of a line yet is given a piece that begins with the line of an order with these seats,
+-- whose turn has come; the seats need not be the site's
 pub record BringsSeats (reader : LineReader) (seats : List Seat) (piece : List ℕ) (used : ℕ) : Type 0 where
   pub fresh : reader.text.items ≡ []
   pub text : (site : Site) → HasInFront (line_text site (Order seats)) piece used

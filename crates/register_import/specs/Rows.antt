@@ -20,19 +20,19 @@ test_of_row row = record { visit = row.visit.number; point = row.point }
 
 -- ---- why a row is refused
 
--- it hasn't four fields, or is a header that differs
+-- why a row is refused: it hasn't four fields, or is a header that differs
 abbrev pub bad_form : ℕ
 bad_form = 1
 
--- its visit or its day isn't a number below 2 ^ 32
+-- why a row is refused: its visit or its day isn't a number below 2 ^ 32
 abbrev pub bad_number : ℕ
 bad_number = 2
 
--- its engineer isn't a name
+-- why a row is refused: its engineer isn't a name
 abbrev pub bad_engineer : ℕ
 bad_engineer = 3
 
--- its point isn't the site's
+-- why a row is refused: its point isn't the site's
 abbrev pub bad_point : ℕ
 bad_point = 4
 

@@ -25,7 +25,7 @@ change_at at file =
     (slice_index file (at + 3))
     (slice_index file (at + 7)) (number_at 4 (at + 4) file)
 
--- so many changes from a place on
+-- so many changes that stand in a file one behind another, from a place on
 unfoldable pub changes_at : ℕ → ℕ → List ℕ → List Change
 changes_at count at file = map (λ k. change_at (at + 8 * k) file) (range_with_len 0 count)
 

@@ -8,7 +8,7 @@ use Rattle.byteorder.specs.Endian.{big_from, little_from}
 abbrev pub AreBytes : List ℕ → Type 0
 AreBytes file = (place : ℕ) → slice_index file place < 256
 
--- these bytes of one file are those of another, from a place in each on
+-- n bytes of one file, from a place on, are those of another, from a place in that on
 pub record Agrees (n : ℕ) (file : List ℕ) (at : ℕ) (other : List ℕ) (from : ℕ) : Type 0 where
   pub same : (i : ℕ) → i < n → slice_index file (at + i) ≡ slice_index other (from + i)
 

@@ -61,7 +61,7 @@ MayCount Shut = ⊥
 MayCount Ready = Unit {0}
 MayCount Open = Unit {0}
 
--- the other slot is behind the chosen one: of two open slots with these numbers the chosen one counts
+-- the other slot of a journal is behind the chosen one: of two open slots with these numbers the chosen one counts
 abbrev pub IsBehind : Bool → ℕ → ℕ → Type 0
 IsBehind true other chosen = other < chosen
 IsBehind false other chosen = other ≤ chosen
@@ -72,7 +72,7 @@ pub record HoldsState (wide second : Bool) (cells last : ℕ) (kept : Retained) 
   pub copy_number : slot_number (slot_place second) file ≡ last + 1
   pub copy : retained_at wide (slot_place second) file ≡ kept
 
--- the other slot holds what is kept, with the number behind that of the last cell
+-- all cells of a journal count, and its other slot holds what is kept, with the number behind that of the last cell
 abbrev pub HoldsCopy : Journal → List ℕ → Type 0
 HoldsCopy journal file =
     HoldsState journal.wide (not journal.second) journal.cells journal.number journal.kept file
@@ -232,7 +232,8 @@ pub record LeavesInTurn {D : Type 0} (moment : D → ℕ) (left_since : D → �
   pub first : LeavesOnly moment left_since old between P
   pub second : LeavesOnly moment left_since between new Q
 
--- such a journal has room for the numbers of as many commits as it may be asked for
+-- a journal whose chosen slot had a number of at most 2^62 when it was opened has room for the numbers of as many
+-- commits as it may be asked for
 abbrev pub EarlyHasRoom : Type 0
 EarlyHasRoom =
     (journal : Journal) → IsEarly journal → journal.tried ≤ last_tick + 1

@@ -21,7 +21,8 @@ HasNoCellGates file = (cell : ℕ) → cell < most_cells → slice_index file (c
 abbrev pub IsWithoutCells : List ℕ → Type 0
 IsWithoutCells file = HasNoLogGate file ⊎ HasNoCellGates file
 
--- such a file, if it opens, opens to the state of its chosen slot
+-- a file with zeros from the log gate to slot A, or where the cells' gates would be, opens, if it does, to the state
+-- of its chosen slot
 abbrev pub OpensToItsSlot : Type 0
 OpensToItsSlot =
     (wide : Bool) (digest file : List ℕ) (state : Retained) → IsWithoutCells file
@@ -37,7 +38,8 @@ HasNoTestChange file =
     (cell k : ℕ) → cell < counted file → k < cell_count (cell_place cell) file
     → slice_index file (cell_place cell + 10 + 8 * k) ≢ 7
 
--- such a file, if it opens, opens with no zone in test
+-- a file with zeros in the bytes of the chosen slot that hold the zones in test, and with no change of a zone in test
+-- in a cell that counts, opens, if it does, with no zone in test
 abbrev pub OpensWithoutTests : Type 0
 OpensWithoutTests =
     (wide : Bool) (digest file : List ℕ) (state : Retained) → HasNoTestBytes file → HasNoTestChange file

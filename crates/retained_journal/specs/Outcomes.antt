@@ -52,11 +52,11 @@ IsLengthOf seen refusal =
 abbrev pub IsEarlyFor : Journal → List ℕ → Type 0
 IsEarlyFor journal file = slot_number (chosen_place file) file ≤ 2 ^ 62 → IsEarly journal
 
--- as many cells count as the journal says
+-- as many cells of a file count as a journal says
 abbrev pub CountsItsCells : Journal → List ℕ → Type 0
 CountsItsCells journal file = counted file ≡ journal.cells
 
--- the same of a journal that isn't torn
+-- as many cells of a file count as a journal says, unless the journal is torn
 abbrev pub CountsUnlessTorn : Journal → List ℕ → Type 0
 CountsUnlessTorn journal file = journal.torn ≡ false → counted file ≡ journal.cells
 

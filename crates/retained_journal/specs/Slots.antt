@@ -48,11 +48,11 @@ retained_at wide at file = record {
 abbrev pub FitHalves : List ℕ → Type 0
 FitHalves halves = (half : ℕ) → half < 2 → slice_index halves half < 2 ^ 96
 
--- the same of the loops of a panel
+-- the masks of points of the loops of a panel have room in a slot: none has a bit for a 97th address
 abbrev pub FitLoops : List (List ℕ) → Type 0
 FitLoops loops = (line : ℕ) → line < 4 → FitHalves (slice_index_or loops line [])
 
--- the same of the points of all panels
+-- the masks of points of all panels have room in a slot: none has a bit for a 97th address
 abbrev pub FitPoints : List PointSet → Type 0
 FitPoints points = (panel : ℕ) → panel < 8 → FitLoops (slice_index_or points panel no_points).loops
 
@@ -61,11 +61,11 @@ abbrev pub AreNarrow : Bool → List ℕ → Type 0
 AreNarrow true halves = Unit {0}
 AreNarrow false halves = slice_index halves 1 ≡ 0
 
--- the same of the loops of a panel
+-- in a journal that isn't wide no address on the loops of a panel is above 96
 abbrev pub HasNarrowLoops : Bool → List (List ℕ) → Type 0
 HasNarrowLoops wide loops = (line : ℕ) → line < 4 → AreNarrow wide (slice_index_or loops line [])
 
--- the same of the points of all panels
+-- in a journal that isn't wide no point of any panel has an address above 96
 abbrev pub HasNarrowPoints : Bool → List PointSet → Type 0
 HasNarrowPoints wide points =
     (panel : ℕ) → panel < 8 → HasNarrowLoops wide (slice_index_or points panel no_points).loops

@@ -12,13 +12,14 @@ use Rattle.run_text.specs.SoFar.{text_so_far}
 abbrev pub whole_text : Site → Retained → List TickBlock → List ℕ
 whole_text site kept ticks = text_so_far site kept ticks ++ end_line (length ticks)
 
--- it is the text of the run, whatever its ticks
+-- the text after the ticks of a run and the last line are the text of the run, whatever its ticks
 abbrev pub TextIsWhole : Type 0
 TextIsWhole =
     (site : Site) (kept : Retained) (ticks : List TickBlock)
     → whole_text site kept ticks ≡ text_of_run site kept (moments ticks)
 
--- it is the text of the run's timeline, which is in form where the run can be told
+-- where a run can be told its timeline is in form, and the text after its ticks and the last line are the text of that
+-- timeline
 abbrev pub TimelineIsOfRun : Type 0
 TimelineIsOfRun =
     (site : Site) (kept : Retained) (ticks : List TickBlock) → CanBeTold site kept (moments ticks)

@@ -64,7 +64,7 @@ pub record EndsServing (count : ℕ) (conns : List ServedConn) (old new : Option
     pub enough : (length conns ≡ count) ⊎ (has_stop conns ≡ true)
     pub says : Says Done (served_line (length conns)) old new outcome.status
 
--- or the door failed before
+-- serving ended as the door failed: fewer connections were served than were asked for, and none was a stop
 pub record EndsAtDoor (count : ℕ) (conns : List ServedConn) (old new : Option (List ℕ)) (outcome : Outcome) : Type 0
   where
     pub fewer : length conns < count
@@ -148,7 +148,7 @@ ServesOver site digest disk door keeper count old new outcome =
     StopsAtJournal site digest disk door keeper old new outcome
     ⊎ ServesKept site digest disk door keeper count old new outcome
 
--- the same, or there is no site, and why is told
+-- what serving a site comes to, by what its disk holds, or that there is no site, and why is told
 abbrev pub ServesSite : List ℕ → JournalDisk → DoorSides → KeeperSides → ℕ → Option (List ℕ) → Option (List ℕ)
     → Outcome → Result Site Stop → Type 0
 ServesSite digest disk door keeper count old new outcome (Ok site) =

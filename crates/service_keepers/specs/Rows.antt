@@ -8,7 +8,7 @@ use Rattle.service_keepers.specs.declared.visit.Visit.{Visit}
 abbrev pub visit_row : Visit → VisitRow
 visit_row visit = record { number = visit.number; day = visit.day; engineer = visit.engineer.bytes }
 
--- that the visit of a number tested the point that a label names
+-- the row of a test: that the visit of a number tested the point that a label names
 abbrev pub test_of : ℕ → ArrayString → TestRow
 test_of visit point = record { visit = visit; point = point.bytes }
 

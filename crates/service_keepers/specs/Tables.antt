@@ -10,7 +10,7 @@ pub record VisitRow : Type 0 where
   pub day : ℕ
   pub engineer : List ℕ
 
--- that the visit of a number tested the point of a name
+-- a test: the number of a visit, and the name of the point that it tested
 pub record TestRow : Type 0 where
   pub visit : ℕ
   pub point : List ℕ

@@ -43,7 +43,8 @@ pub record IsWriting {W : Type 0} (contents : W → Option (List ℕ)) (writer :
   pub setup : writer_setup writer ≡ default_writer
   pub written : text_written contents writer ≡ Some text
 
--- this is written behind what was written before
+-- a writer with the defaults, which stood behind a whole row, wrote this behind what it had written before, and stands
+-- behind a whole row again
 abbrev pub Writes : {W : Type 0} → (W → Option (List ℕ)) → Writer W → Writer W → List ℕ → Type 0
 Writes contents old new added = (text : List ℕ) → IsWriting contents old text
     → IsWriting contents new (text ++ added)

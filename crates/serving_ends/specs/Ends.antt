@@ -11,7 +11,7 @@ use Rattle.serving_ends.specs.declared.serving_end.ServingEnd.{ServingEnd}
 abbrev pub served_line : ℕ → List ℕ
 served_line count = codes "served " ++ decimal count ++ codes "\n"
 
--- or that the door failed
+-- what is told at the end: that the door failed
 abbrev pub door_line : List ℕ
 door_line = codes "fault door\n"
 

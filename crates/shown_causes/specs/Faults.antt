@@ -12,7 +12,7 @@ use Rattle.audit_rules.specs.Shown.{text_tells_fault}
 use Rattle.shown_causes.specs.declared.fault_told.FaultTold.{FaultTold}
 use Rattle.shown_causes.specs.declared.told_faults.ToldFaults.{ToldFaults}
 
--- the same after one more tick
+-- when a fault of a panel was told, after one more tick, in which it was told or not
 abbrev pub told_after : ℕ → Bool → FaultTold → FaultTold
 told_after now fault told =
     record { lasts = fault; last = if told.lasts && not fault then Some (now - 1) else told.last }

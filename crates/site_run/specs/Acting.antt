@@ -43,7 +43,7 @@ ShowsNow system panel last now =
     → SystemStands site kept before system → IsRun site.panels before → AreMarked site kept before system.changed
     → last ≡ face_of site kept panel (before_tick before) → now ≡ face_of site kept panel before
 
--- the same of all panels
+-- the faces of all panels are those of the rules now, if other ones are those of the end of the tick before
 abbrev pub ShowAllNow : System → List Face → List Face → List Face → Type 0
 ShowAllNow system shown old faces =
     (site : Site) (kept : Retained) (before : List Moment)
@@ -62,7 +62,7 @@ pub record MayShowNext (run : Run) : Type 0 where
   pub room : length run.shown.items ≡ length run.next.items
   pub alike : run.alike ≡ true → run.next.items ≡ run.shown.items
 
--- it was put, and what they showed before is at hand
+-- what the panels show was put in place of what they showed, and what they showed before is at hand
 pub record ShowsNext (old run : Run) : Type 0 where
   pub rest : run ≡ record old { shown = run.shown; next = run.next; alike = run.alike }
   pub before : run.next.items ≡ old.shown.items

@@ -8,7 +8,7 @@ use Rattle.retained_journal.specs.Images.{IsSound}
 use Rattle.retained_journal.specs.Outcomes.{IsKeptIn}
 use Rattle.panel_core.specs.Keeping.{KeepsRun}
 
--- it was opened for a site and keeps this
+-- a journal was opened for a site and keeps this
 pub record IsOpenFor (site : Site) (kept : Retained) (journal : Journal) : Type 0 where
   pub keeps : KeepsRun site kept [] journal
   pub sound : IsSound journal

@@ -66,7 +66,8 @@ pub record LeavesAtEachMoment (kind : DiskKind) (site : Site) (kept : Retained) 
   pub at_opening : (file : List ℕ) → kind.images opened file → OpensToAcknowledged site kept digest [] file
   pub since : LeavesTicks kind site kept digest [] opened ticks now
 
--- the same of an honest disk, whose journal had numbers enough
+-- from the opening of its journal on, whenever in these ticks the power is cut, an honest disk, whose journal had
+-- numbers enough, leaves only files that open to all that was acknowledged by then
 abbrev pub LeavesAcknowledged : Site → Retained → List ℕ → JournalDisk → List TickBlock → Type 0
 LeavesAcknowledged site kept digest disk ticks = HasNumbers disk.seen → disk.kind.honest disk.now
     → LeavesAtEachMoment disk.kind site kept digest disk.now ticks

@@ -72,7 +72,7 @@ pub record StandsSome (run : Run) : Type 0 where
   pub p : Progress
   pub stands : Stands site kept p run
 
--- it stands for ticks of which none is open
+-- a run stands for ticks of which none is open
 pub record StandsClosed (run : Run) : Type 0 where
   pub site : Site
   pub kept : Retained

@@ -184,7 +184,7 @@ SectionsCrossNoZones site =
     section_of plan.isolators p.address ≡ section_of plan.isolators q.address → p.zone ≡ q.zone) site.points)
     site.points) site.loops
 
--- both zones are of type B, or both of type C
+-- two zones are both of type B, or both of type C, as partners are
 abbrev pub is_partner_type : Rule → Rule → Bool
 is_partner_type (B x) (B y) = true
 is_partner_type C C = true

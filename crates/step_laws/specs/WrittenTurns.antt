@@ -35,7 +35,8 @@ at_effect before = Turned 1 Link ∷ Turned 1 Hold ∷ Turned 1 Desk ∷ Turned 
 abbrev pub FromTurnToTurn : (Facts → Facts → Type 0) → (ℕ → List Moment → Facts) → List Moment → Type 0
 FromTurnToTurn IsSo facts before = IsSo (facts_at_effect facts 1 before) (facts 1 (at_effect before))
 
--- so many steps are asked of the turns of a tick of one panel, whatever had befallen and whether or not Keep fails
+-- the turns of a tick of one panel ask so many steps of the counter, whatever had befallen and whether or not Keep
+-- fails, where something is so between the facts of its turn of Effect before and those of the one in this tick
 abbrev pub TakesSteps : ℕ → Site → (Facts → Facts → Type 0) → Type 0
 TakesSteps steps site IsSo =
     (facts : ℕ → List Moment → Facts) (before : List Moment) (failed : Bool) (earlier later : ℕ)

@@ -27,7 +27,7 @@ abbrev pub ArePartedEvents : List TickBlock → List Event → List ℕ → Type
 ArePartedEvents [] events starts = (events ≡ []) × (starts ≡ [])
 ArePartedEvents (newest ∷ ticks) events starts = EndsWith (ArePartedEvents ticks) newest events starts
 
--- the same of a `TickEvents`
+-- the ticks have the events of a `TickEvents`, the earliest first, each tick's from its place on
 abbrev pub TellsEvents : List TickBlock → TickEvents → Type 0
 TellsEvents ticks told = ArePartedEvents ticks told.events.items told.starts.items
 

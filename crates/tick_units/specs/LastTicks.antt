@@ -3,7 +3,7 @@ use Rattle.std.specs.Prelude.{ℕ, Bool, nat_lt, if◌then◌else◌}
 use Rattle.tick_units.specs.declared.tick.Tick.{Tick}
 use Rattle.tick_units.specs.declared.last_done.LastDone.{LastDone}
 
--- it was never done
+-- something was never done: its latest tick is 0, and so is the one before that
 abbrev pub never_done : LastDone
 never_done = record { tick = record { 0 = 0 }; earlier = record { 0 = 0 } }
 

@@ -55,11 +55,11 @@ pub record IsBadAt (IsBad : List Seat → Seat → Type 0) (panels : ℕ) (seats
   pub sound : IsSound panels earlier
   pub bad : IsBad earlier seat
 
--- it isn't one of the site
+-- the first seat that isn't one of the site stands at this place, counted from 1, and none before it stands twice
 abbrev pub IsStrangeAt : ℕ → List Seat → ℕ → Type 0
 IsStrangeAt panels = IsBadAt (λ earlier seat. ¬ Contains (canonical_seats panels) seat) panels
 
--- it stands earlier too
+-- the first seat that stands earlier too is at this place, counted from 1, and all before it are of the site
 abbrev pub IsRepeatedAt : ℕ → List Seat → ℕ → Type 0
 IsRepeatedAt panels = IsBadAt Contains panels
 

@@ -13,7 +13,7 @@ pub record IsFloorOf (site : Site) (done : List Done) (now zone : ℕ) (row : Zo
   pub floor : row.floor ≡ floor_before site zone now done
   pub cancelled : row.cancelled ≡ cancelled_before zone now done
 
--- those of all zones
+-- the last floors and the last cancellings of all zones before a tick, each zone's at its place
 pub record AreFloors (site : Site) (done : List Done) (now : ℕ) (rows : List ZoneFloor) : Type 0 where
   pub whole : length rows ≡ length site.zones
   pub each : (zone : ℕ) (row : ZoneFloor) → slice_get rows zone ≡ Some row → IsFloorOf site done now zone row

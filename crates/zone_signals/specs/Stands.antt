@@ -16,7 +16,7 @@ pub record ZoneStands (site : Site) (kept : Retained) (done : List Done) (moment
   pub alone : IsLeastTick (EndedAlone site kept done moments zone now) settled.alone
   pub second : IsLeastTick (EndedSeconds site kept done moments zone now) settled.second
 
--- the same of all zones, each at its place
+-- of all zones, each at its place, the least tick from which a signal of each kind counts
 pub record ZonesStand (site : Site) (kept : Retained) (done : List Done) (moments : List Moment) (now : ℕ) (zones : List
     ZoneSettled) : Type 0 where
   pub whole : length zones ≡ length site.zones

@@ -42,7 +42,7 @@ KeepsLeast Ended known zone old new =
     → IsLeastTick (Ended known.site.now kept done moments zone (known.tick - 1)) old
     → IsLeastTick (Ended known.site.now kept done moments zone known.tick) new
 
--- the same of all kinds
+-- the least signals of all kinds by the tick before become the least ones by now, where no floor came
 abbrev pub KeepsZone : Known → ℕ → ZoneSettled → ZoneSettled → Type 0
 KeepsZone known zone old new =
     (kept : Retained) (done : List Done) (moments : List Moment)
