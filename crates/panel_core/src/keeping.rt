@@ -89,14 +89,19 @@ pub fn has_failed(store: Store) -> bool
     }
 }
 
+// Each with each, since `==` of two arrays is a call that takes three times as many instructions.
 fn are_same(counters: &[u32; 8], others: &[u32; 8]) -> bool
     ensures { result ≡ true → counters.now ≡ others.now }
 {
-    counters == others
+    let [a, b, c, d, e, f, g, h] = *counters;
+    let [i, j, k, l, m, n, o, p] = *others;
+    a == i && b == j && c == k && d == l && e == m && f == n && g == o && h == p
 }
 
 fn are_kept(entries: &[u64; 8], kept: &[u64; 8]) -> bool
     ensures { result ≡ true → entries.now ≡ kept.now }
 {
-    entries == kept
+    let [a, b, c, d, e, f, g, h] = *entries;
+    let [i, j, k, l, m, n, o, p] = *kept;
+    a == i && b == j && c == k && d == l && e == m && f == n && g == o && h == p
 }
