@@ -43,7 +43,8 @@ pub record CanHave (place : ℕ) (finding : Finding) (group : FindingGroup) : Ty
   pub point : finding.point ≡ min (group.point + place) 65535
   pub told : (group.telling ≡ 0) ⊎ (TellsNone finding ⊎ TellsLike finding group)
 
--- a run can't take it behind the others: it holds some, and the finding can't stand at the place behind the last
+-- a run can't take a finding behind those that it holds: it holds some, and the finding can't stand at the place behind
+-- the last
 pub record CannotTake (finding : Finding) (run : Run FindingGroup) : Type 0 where
   pub some : run.count ≢ 0
   pub taken : CanHave (run.taken + run.count) finding run.first → ⊥

@@ -13,7 +13,7 @@ use Rattle.audit_rules.specs.Breaches.{Breach, BreaksIndication, BreaksZone}
 use Rattle.audit_rules.specs.ToldDone.{done_by_steps, retained_by}
 use Rattle.audit_laws.specs.AlikeZones.{Account, AreAlikeForZones}
 
--- what a run has kept and done by then
+-- what a run has kept and done so far
 abbrev pub account_of_run : Site → Retained → List Moment → Account
 account_of_run site kept moments = record { kept = kept; done = (operations site kept moments).done }
 

@@ -31,7 +31,8 @@ is_unfounded asked tick before answer =
     || (was_answered answer.number before
     || (tells_done answer.reply && is_beyond_level (request_numbered answer.number asked)))
 
--- some answer of a tick is such a one
+-- some answer of a tick is unfounded: nobody asked, it was answered before, or it is `done` against the level of its
+-- code
 pub record HasUnfounded (asked : List Request) (steps : List Step) (tick : ℕ) : Type 0 where
   pub before : List Step
   pub step : Step

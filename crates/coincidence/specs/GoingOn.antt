@@ -86,7 +86,8 @@ pub record ConfirmsAgain (decide : Decide) (answer : Answer) (zones : ℕ) : Typ
   pub taken : TakesAnswers decide (answer ∷ []) decide
   pub found : FindsNext decide answer (telling_of zones answer)
 
--- of the answers of a run of which the bits of a byte tell, those before the last ones do so
+-- of the answers of a run of which the bits of a byte tell there are some before the last ones; these leave all that is
+-- kept as it is, and where they are alarms confirm and release the zones of a part
 pub record ConfirmsPart (decide : Decide) (run : Run AnswerGroup) (bits : ℕ) (part : ZonePart) : Type 0 where
   pub again : (k : ℕ) → has_bit bits k ≡ true → has_bit part.behind k ≡ false
       → ConfirmsAgain decide (answer_at run.first (run.taken + k)) part.zones

@@ -47,7 +47,8 @@ pub record IsOfPoint (answer : Answer) (decide : Decide) (zone : PlainZone) : Ty
   pub known : IsKnown answer.stamp.0 decide zone
   pub own : (watch : PointWatch) → watch ≡ slice_index_or decide.points answer.point watch → zone.zone ≡ watch.zone
 
--- an answer of which this is said leaves what is kept of its point as it is
+-- by what a judgement says of an answer, whether it counts and which floor came last before it, the answer leaves what
+-- is kept of its point as it is
 pub record RunGoesOn (answer : Answer) (judgement : Judgement) (decide : Decide) : Type 0 where
   pub watch : PointWatch
   pub read : watch ≡ slice_index_or decide.points answer.point watch

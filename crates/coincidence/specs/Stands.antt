@@ -69,7 +69,7 @@ pub record WatchesPoint (site : Site) (kept : Retained) (done : List Done) (take
   pub run : watch.run ≡ run_of (is_counted site kept done) (λ x. floor_before site point.zone x done) place
       None taken
 
--- what is kept of a zone tells of them
+-- what is kept of a zone tells of the operations done and the answers taken
 pub record WatchesZone (site : Site) (kept : Retained) (done : List Done) (taken : List Answer) (place :
     ℕ) (zone : ZonePlan) (watch : ZoneWatch) : Type 0 where
   pub number : watch.number ≡ zone.number
@@ -125,12 +125,13 @@ abbrev pub CanObserve : Decide → Answer → Type 0
 CanObserve decide answer =
     StandsWith decide (λ site kept panel done taken. Fits site panel done taken answer)
 
--- for something after which the answers may be taken
+-- the part that decides stands for some operations done and answers taken after which more answers may be taken
 abbrev pub CanTake : Decide → List Answer → Type 0
 CanTake decide answers =
     StandsWith decide (λ site kept panel done taken. MayTake site panel done taken answers)
 
--- for something after which the operation may be applied in a tick
+-- the part that decides stands for some operations done and answers taken after which an operation may be applied in a
+-- tick
 abbrev pub CanApply : Decide → Operation → ℕ → Type 0
 CanApply decide operation tick =
     StandsWith decide (λ site kept panel done taken. MayApply site panel done taken operation tick)

@@ -46,7 +46,7 @@ event_by word =
 abbrev pub drawn_by : ℕ → ℕ → Drawn
 drawn_by first second = record { event = event_by first; reversed = second % 2 == 1 }
 
--- of the tick behind so many, which has two words
+-- what a seed draws of the tick behind so many, by the two words of that tick
 abbrev pub drawn_behind : ℕ → ℕ → Drawn
 drawn_behind seed n = drawn_by (word_behind seed (2 * n)) (word_behind seed (2 * n + 1))
 

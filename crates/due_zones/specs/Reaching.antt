@@ -33,7 +33,8 @@ abbrev pub IsDueFrom : Site → Retained → List Done → List Moment → ℕ �
 IsDueFrom site kept done moments zone panel None = ⊥
 IsDueFrom site kept done moments zone panel (Some settled) = IsDueAfter site kept done moments zone panel settled
 
--- whether it is due, at whatever site it is so that the panel hears
+-- whether there is a signal of a zone and it is due at a panel, at whatever site and in whatever run the panel hears
+-- this of the zone's panel
 abbrev pub TellsReached : Reach → Option ℕ → Bool → Type 0
 TellsReached reach settled result =
     (site : Site) (kept : Retained) (done : List Done) (moments : List Moment) (zone panel : ℕ) → IsValid site

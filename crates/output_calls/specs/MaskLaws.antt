@@ -19,7 +19,8 @@ use Rattle.output_calls.specs.DelayCalls.{delay_calls, requests_at}
 use Rattle.output_calls.specs.DoneCalls.{IsLatestFirst}
 use Rattle.output_calls.specs.RoutingCalls.{routing_calls}
 
--- the outputs of a panel that are confirmed
+-- the mask of the outputs of a panel that are confirmed, by the calls of a run and whatever the limit is, is that
+-- of the rules
 abbrev pub ConfirmedMaskByCalls : Type 0
 ConfirmedMaskByCalls =
     (site : Site) (facts : ℕ → List Moment → Facts) (kept : Retained) (done : List Done) (limit panel : ℕ)
@@ -38,7 +39,8 @@ UnconfirmedMaskByCalls =
     (state_of site panel (routing_of site.format) (k + 1) (routing_calls site facts kept done panel moments)))
     ≡ outputs_where site panel (λ output. is_unconfirmed site facts kept done output moments)
 
--- the outputs of a panel that pass the delays at a turn of Drive made now
+-- the mask of the outputs of a panel that pass the delays at a turn of Drive made now, by the calls of a run, is that
+-- of the rules
 abbrev pub ThroughMaskByCalls : Type 0
 ThroughMaskByCalls =
     (site : Site) (facts : ℕ → List Moment → Facts) (kept : Retained) (done : List Done) (panel : ℕ) (before :

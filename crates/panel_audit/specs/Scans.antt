@@ -69,7 +69,7 @@ TellsDark site dues excused faces place result =
     → ExcusedStand site kept operations (length ticks) excused → AreFacesAfter timeline (length ticks) faces
     → (result ≡ true) ↔ IsDark site kept (done_newest_first operations) timeline (moments_of ticks) place
 
--- the first such output
+-- the first output that is due to be on and isn't, or none
 abbrev pub ScansDark : Site → List Numbered → DueOutputs → ExcusedOutputs → List Face → Option ℕ → Type 0
 ScansDark site outputs dues excused faces found =
     (kept : Retained) (operations : List DoneOperation) (timeline : Timeline) (ticks : List TickBlock)

@@ -17,7 +17,7 @@ use Rattle.panel_conditions.specs.Missing.{missing_found}
 use Rattle.panel_conditions.specs.Words.{faults_at, word_at}
 use Rattle.panel_conditions.specs.Zones.{alarm_found, first_found, hand_found, release_found}
 
--- whether a zone is in alarm
+-- the findings of answers in order tell whether a zone is in alarm as the answers themselves do
 abbrev pub FindingsTellAlarm : Type 0
 FindingsTellAlarm =
     (site : Site) (kept : Retained) (done : List Done) (answers : List Answer) (place tick : ℕ) (zone : Zone)
@@ -25,7 +25,7 @@ FindingsTellAlarm =
     → alarm_found site done (findings_of site kept zone.panel done answers) place tick
     ≡ is_in_alarm site kept done answers place tick
 
--- whether it is so by a manual call point
+-- the findings of answers tell whether a zone is in alarm by a manual call point as the answers themselves do
 abbrev pub FindingsTellHand : Type 0
 FindingsTellHand =
     (site : Site) (kept : Retained) (done : List Done) (answers : List Answer) (place tick : ℕ) (zone : Zone)
@@ -33,7 +33,7 @@ FindingsTellHand =
     → hand_found site done (findings_of site kept zone.panel done answers) place tick
     ≡ is_by_hand site kept done answers place tick
 
--- whether outputs may act for it
+-- the findings of answers in order tell whether outputs may act for a zone as the answers themselves do
 abbrev pub FindingsTellReleased : Type 0
 FindingsTellReleased =
     (site : Site) (kept : Retained) (done : List Done) (answers : List Answer) (place tick : ℕ) (zone : Zone)
@@ -41,7 +41,7 @@ FindingsTellReleased =
     → release_found site done (findings_of site kept zone.panel done answers) place tick
     ≡ is_released site kept done answers place tick
 
--- whether it is in first state
+-- the findings of answers in order tell whether a zone is in first state as the answers themselves do
 abbrev pub FindingsTellFirst : Type 0
 FindingsTellFirst =
     (site : Site) (kept : Retained) (done : List Done) (answers : List Answer) (place tick : ℕ) (zone : Zone)
@@ -49,7 +49,7 @@ FindingsTellFirst =
     → first_found site done (findings_of site kept zone.panel done answers) place tick
     ≡ is_first site kept done answers place tick
 
--- whether a point is missing
+-- the findings of answers tell whether a point is missing as the answers themselves do
 abbrev pub FindingsTellMissing : Type 0
 FindingsTellMissing =
     (site : Site) (kept : Retained) (panel place : ℕ) (done : List Done) (answers : List Answer)

@@ -44,7 +44,8 @@ pub record KeepsRun (site : Site) (kept : Retained) (moments : List Moment) (jou
   pub wide : journal.wide ≡ is_wide site
   pub torn : journal.torn ≡ true → IsLeftOver site kept moments journal.attempt.items
 
--- after a turn of Keep that answered so
+-- after a turn of Keep the system stands for the run, the journal keeps what the run keeps, and the answer of the turn
+-- is that of the rules
 pub record HasTurned (site : Site) (kept : Retained) (moments : List Moment) (store : Store) (journal : Journal)
     (system : System) : Type 0 where
   pub stands : StandsFor site kept moments system

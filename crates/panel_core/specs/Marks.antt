@@ -33,7 +33,7 @@ ShowsSame site kept moments panel =
 abbrev pub is_marked : List Bool → ℕ → Bool
 is_marked marks panel = slice_index_or marks (panel - 1) false
 
--- each panel that isn't marked shows what it showed then
+-- each panel that isn't marked shows what it showed at the end of the tick before
 abbrev pub AreMarked : Site → Retained → List Moment → List Bool → Type 0
 AreMarked site kept moments marks =
     (panel : ℕ) → IsPanel site.panels panel → is_marked marks panel ≡ false → ShowsSame site kept moments panel

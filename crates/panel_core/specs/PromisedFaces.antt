@@ -44,12 +44,12 @@ abbrev pub InEachRun : System → (Site → Retained → List Moment → Type 0)
 InEachRun system Holds = (site : Site) (kept : Retained) (moments : List Moment)
     → StandsFor site kept moments system → IsRun site.panels moments → Holds site kept moments
 
--- at the end of a tick of it
+-- in each run that the system stands for, at the end of a tick
 abbrev pub AfterEachTick : System → (Site → Retained → List Moment → Type 0) → Type 0
 AfterEachTick system Holds =
     InEachRun system (λ site kept moments. HaveAllTurned site.panels moments → Holds site kept moments)
 
--- in each of those runs, of each zone of its site
+-- in each run that the system stands for, at the end of a tick, of each zone of its site
 abbrev pub OfEachZone : System → (Site → Retained → List Moment → ℕ → Zone → Type 0) → Type 0
 OfEachZone system Holds =
     AfterEachTick system (λ site kept moments. (zone : ℕ) (plan : Zone) → slice_get site.zones zone ≡ Some plan

@@ -65,7 +65,7 @@ pub record MayReply (asked : Route) (body : List ℕ) (points : List PointRow) (
   pub of : IsOfSite site asked
   pub points_are : points ≡ points_of site
 
--- whatever ticks were run before
+-- a reply to a request was made, with what is done for it, whatever ticks were run before
 abbrev pub RepliesBy : Route → List ℕ → KeeperSides → Disks → Reply → Run → Run → Type 0
 RepliesBy asked body sides disks reply old run =
     (site : Site) (kept : Retained) (ticks : List TickBlock) → Stands site kept (at_rest ticks) old

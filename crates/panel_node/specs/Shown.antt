@@ -61,7 +61,7 @@ ShowsWord node source word =
     → NodeStandsFor site panel kept history node → IsRun site.panels (befallen history)
     → word ≡ node_shows site panel kept history source
 
--- the zones of each panel, one kind of them, by those words
+-- the zones of each panel, one kind of them, by the word of the panel by which its zones are shown
 abbrev pub ShowsByWords : (Word → ℕ) → Node → List ℕ → Type 0
 ShowsByWords told node zones =
     (site : Site) (panel : ℕ) (kept : Retained) (history : List NodeMoment)

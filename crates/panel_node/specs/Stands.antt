@@ -66,7 +66,8 @@ pub record NodeHasApplied (site : Site) (panel : ℕ) (kept : Retained) (history
   pub sized : IsSized node.settings
   pub things : HasNoStrangeBits site node.settings
 
--- one more comes in force at it
+-- at the end of a tick an operation done in it comes in force at a panel by itself, after those that the panel has
+-- applied
 pub record MayApply (d : Done) (node : Node) : Type 0 where
   pub site : Site
   pub panel : ℕ

@@ -135,7 +135,7 @@ Answers words = AnswersCommand (command_of (map string_bytes words)) (names_of (
 abbrev pub RunsNothing : List (String Global) → Type 0
 RunsNothing words = command_of (map string_bytes words) ≢ Run
 
--- one that moves nothing leaves the second disk alone
+-- a command that moves nothing leaves the second disk alone
 abbrev pub MovesNothing : List (String Global) → Type 0
 MovesNothing words = command_of (map string_bytes words) ≢ Move
 
@@ -150,14 +150,15 @@ AnswersIfImport words files register old new outcome = IsImport words
     → AnswersImport files (site_word (map string_bytes words)) (file_word (map string_bytes words)) register old new
     outcome
 
--- one that serves no site, and one that serves no panel by itself
+-- a command that serves no site
 abbrev pub ServesNoSite : List (String Global) → Type 0
 ServesNoSite words = (port count : ℕ) → command_of (map string_bytes words) ≢ Serve port count
 
+-- a command that serves no panel by itself
 abbrev pub ServesNoPanel : List (String Global) → Type 0
 ServesNoPanel words = (panel port count : ℕ) → command_of (map string_bytes words) ≢ Node panel port count
 
--- one that serves nothing leaves the door alone
+-- a command that serves nothing leaves the door alone
 abbrev pub ServesNothing : List (String Global) → Type 0
 ServesNothing words = ServesNoSite words × ServesNoPanel words
 
@@ -199,7 +200,7 @@ WithoutMemoryIfNode words outcome Holds =
 abbrev pub AsksNothing : List (String Global) → Type 0
 AsksNothing words = (command_of (map string_bytes words) ≢ Import) × ServesNoSite words
 
--- one that neither runs nor serves writes to the first disk only where it was empty
+-- a command that neither runs nor serves writes to the first disk only where it was empty
 abbrev pub WorksNothing : List (String Global) → Type 0
 WorksNothing words = RunsNothing words × ServesNothing words
 
