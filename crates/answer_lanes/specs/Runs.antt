@@ -12,7 +12,7 @@ module _ {S : Type 0} where
   abbrev pub rest_of : ℕ → Run S → Run S
   rest_of items run = record { first = run.first; taken = run.taken + items; count = run.count - items }
 
-  -- its items, those taken before and those left, are few enough to be counted in one byte
+  -- the items of a run, those taken before and those left, are few enough to be counted in one byte
   abbrev pub HasShortCount : Run S → Type 0
   HasShortCount run = run.taken + run.count ≤ 255
 

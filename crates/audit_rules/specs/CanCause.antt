@@ -20,7 +20,7 @@ module _ (site : Site) (timeline : Timeline) (kept : Retained) (done : List Done
     pub heard : MayBeHeard site moments panel (panel_of_zone site zone) stamp
     pub cause : IsCausedAt site kept done moments zone stamp
 
-  -- and to be in alarm by hand
+  -- at some stamp that a panel may have heard of the zone's panel, the zone was caused to be in alarm by hand
   pub record CanBeHeardByHand (panel zone : ℕ) : Type 0 where
     pub stamp : ℕ
     pub heard : MayBeHeard site moments panel (panel_of_zone site zone) stamp

@@ -24,7 +24,8 @@ module _ {C : Type 0} (given back : C → ToldConn) where
   abbrev pub GivesAll : List C → Option (List ToldConn) → Option (List ToldConn) → Type 0
   GivesAll conns before after = MatchOption after ⊤ (λ waiting. before ≡ Some (map given conns ++ waiting))
 
-  -- they came, in that order, behind those that were handed back before
+  -- these connections were handed back, in this order, behind those that were handed back before; nothing is said where
+  -- nothing is told any more
   abbrev pub HandsBackAll : List C → Option (List ToldConn) → Option (List ToldConn) → Type 0
   HandsBackAll conns before after =
       MatchOption after ⊤ (λ handed. (first : List ToldConn) × (before ≡ Some first)

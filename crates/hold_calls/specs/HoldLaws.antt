@@ -28,7 +28,7 @@ HeldFaults =
     → faults_after site kept panel done (ring_turns site kept done panel before)
     ≡ faults_of site kept done panel before
 
--- the last tick at which something was newly shown is that of the rules
+-- the last tick at which a panel's Hold in the ring newly showed something is that of the panel by the rules
 abbrev pub HeldNews : Type 0
 HeldNews =
     (site : Site) (kept : Retained) (done : List Done) (panel : ℕ) (before : List Moment)

@@ -28,7 +28,8 @@ ToldWord =
     → word_after site kept panel done (hold_turns site kept done told panel before)
     ≡ word_told site kept done told panel before
 
--- the last tick at which something was newly shown
+-- the last tick at which a panel's Hold newly showed something is that of the panel, by what the panel was told from
+-- elsewhere
 abbrev pub ToldNews : Type 0
 ToldNews =
     (site : Site) (kept : Retained) (done : List Done) (told : Told) (panel : ℕ) (before : List Moment)
@@ -44,7 +45,8 @@ ToldBuzzer =
     → buzzer_after site kept panel done (hold_turns site kept done told panel before)
     ≡ buzzer_told site kept done told panel before
 
--- how many entries into the fire alarm condition it counts: as many as there were, whatever it is told
+-- a panel's Hold counts as many entries into the fire alarm condition as there were, whatever the panel is told from
+-- elsewhere
 abbrev pub ToldEntries : Type 0
 ToldEntries =
     (site : Site) (kept : Retained) (done : List Done) (told : Told) (panel : ℕ) (before : List Moment)

@@ -25,7 +25,7 @@ hold_turn site kept done told panel before =
     turn_from (tick_of before) (finding_lane site kept done panel before)
     (outside_now site kept done told panel before)
 
--- all turns so far, the newest first
+-- all turns so far of the Hold of a panel, by what the panel is told from elsewhere, the newest first
 abbrev pub hold_turns : Site → Retained → List Done → Told → ℕ → List Moment → List HoldTurn
 hold_turns site kept done told panel [] = []
 hold_turns site kept done told panel (Began ∷ before) = hold_turns site kept done told panel before

@@ -9,7 +9,7 @@ use Rattle.joined_panels.specs.declared.links.Links.{Links}
 abbrev pub is_link_up : Links → ℕ → Bool
 is_link_up links link = slice_index_or links.up (link - 1) false
 
--- each is up as the last event said that spoke of it
+-- each link is kept as up, unless the last event that spoke of it said that it is down
 abbrev pub HasLinks : List Moment → Links → Type 0
 HasLinks moments links = (link : ℕ) → 1 ≤ link → link ≤ 8 → is_link_up links link ≡ is_up link moments
 

@@ -20,7 +20,7 @@ LatestFactsStay =
     (site : Site) (kept : Retained) (none : Facts) (panel : ℕ)
     → StaysAsMoreIsDone (λ done moments. made_latest none panel Effect (facts_of site kept done panel) moments)
 
--- the zones that were released for the latest Effect turn
+-- the zones that were released for the latest Effect turn of a panel stay as more is done
 abbrev pub ReleasedStays : Type 0
 ReleasedStays = (site : Site) (kept : Retained) (panel : ℕ)
     → StaysAsMoreIsDone (λ done moments. released_at_effect site (facts_of site kept done) panel moments)

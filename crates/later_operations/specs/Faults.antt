@@ -11,7 +11,8 @@ abbrev pub FaultsStay : Type 0
 FaultsStay = (site : Site) (kept : Retained) (panel : ℕ)
     → StaysAsMoreIsDone (λ done moments. faults_of site kept done panel moments)
 
--- what stands besides missing points, whatever stamps were heard and whatever links are up
+-- what stands at a panel besides missing points stays as more is done, whatever stamps were heard and whatever links
+-- are up
 abbrev pub OutsideStays : Type 0
 OutsideStays =
     (site : Site) (kept : Retained) (stamps : ℕ → ℕ) (up : ℕ → Bool) (panel : ℕ)

@@ -46,7 +46,7 @@ input_bit (ManualInput place) = place % 32
 input_bit (FaultInput place) = place % 32
 input_bit (MarkerInput place) = place % 32
 
--- what is read there
+-- what readings tell of an input: whether its bit is set in the word that has it
 abbrev pub reads : Readings → Input → Bool
 reads readings input = has_bit (slice_index_or readings.words (input_word input) 0) (input_bit input)
 

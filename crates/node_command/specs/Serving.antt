@@ -105,7 +105,7 @@ ServesPanelOver site digest panel disk door count old new outcome =
     LacksJournal site digest disk door old new outcome
     ⊎ ServesPanelKept site digest panel disk door count old new outcome
 
--- where the site has the panel; else the usage is told
+-- what serving a panel of a site comes to, where the site has the panel; where it has not, the usage is told
 pub record ServesPanelIf (site : Site) (digest : List ℕ) (panel : ℕ) (disk : JournalDisk) (door : DoorSides) (count : ℕ)
     (old new : Option (List ℕ)) (outcome : Outcome) : Type 0 where
   pub within : panel ≤ site.panels → ServesPanelOver site digest panel disk door count old new outcome

@@ -44,7 +44,7 @@ pub record KeepsOn {D : Type 0} (honest : D → Type 0) (images : D → List ℕ
 abbrev pub own_tick : Site → Bool → List Event → TickBlock
 own_tick site failed events = record { events = events; order = canonical_seats site.panels; failed = failed }
 
--- a tick has begun behind these, and these events came in it
+-- a tick has begun behind some ticks that were run, and some events came in it
 pub record HasBegun (site : Site) (panel : ℕ) (kept : Retained) (history : List NodeMoment) (ticks : List TickBlock)
     (events : List Event) (run : NodeRun) : Type 0 where
   pub node : NodeStandsFor site panel kept
@@ -104,7 +104,7 @@ pub record MayRunBlock (tick : ℕ) (block : List ℕ) (run : NodeRun) : Type 0 
   pub ticks : List TickBlock
   pub with : MayRunWith site panel kept history ticks tick block run
 
--- the block of a tick was run, and what was shown before the tick is at hand
+-- the block of the next tick was run, and what was shown before that tick is at hand
 pub record RanBlock (site : Site) (panel : ℕ) (kept : Retained) (history : List NodeMoment) (ticks : List TickBlock)
     (block : List ℕ) (disks : Disks) (old run : NodeRun) : Type 0 where
   pub failed : Bool

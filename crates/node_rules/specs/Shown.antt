@@ -44,7 +44,7 @@ module _ (site : Site) (kept : Retained) (done : List Done) (panel : ℕ) (hande
   word_on_face now moments source =
       if source == panel then handed_word site kept done panel handed up moments else now source
 
-  -- its face, with the words that it was handed by now and with what is kept
+  -- the face of a panel, with the words that it was handed by now and with what is kept
   abbrev pub handed_face : (ℕ → Word) → Retained → List Moment → Face
   handed_face now stored moments =
       with_settings site kept done panel (tick_of moments) (word_on_face now moments)

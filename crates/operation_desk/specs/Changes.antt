@@ -71,7 +71,7 @@ asked_now panel level operation desk =
       operation = operation;
     }
 
--- there is room for it, where it is one of the first of its panel
+-- an operation can be asked for: there is room for it, where it is one of the first of its panel
 pub record CanAsk (panel level : ℕ) (operation : Operation) (desk : Desk) : Type 0 where
   pub own : IsPanelNumber panel
   pub sized : length desk.counts ≡ 8

@@ -29,7 +29,7 @@ module _ (site : Site) (kept : Retained) where
   abbrev pub given_in : ℕ → List Answered → List RequestOf → List Answered
   given_in tick answers asked = filter_map (answer_in site kept tick answers) asked
 
-  -- as they are told by number
+  -- the answers that are given in a tick to the operations that were asked for, as they are told by number
   abbrev pub told_in : ℕ → List Answered → List RequestOf → List OpAnswer
   told_in tick answers asked = filter_map told_answer (given_in tick answers asked)
 

@@ -17,7 +17,7 @@ IsLeftAt things wanted shown place mark =
     (thing : Numbered) → slice_get things place ≡ Some thing → mark ≡ is_left wanted shown thing
 
 module _ (things : List Numbered) where
-  -- it holds of the thing at a place, and no thing of which it holds comes before that one
+  -- something holds of the thing at a place, and no thing of which it holds comes before that one
   pub record IsFirstPlace (Holds : ℕ → Type 0) (place : ℕ) : Type 0 where
     pub thing : Numbered
     pub is : slice_get things place ≡ Some thing
@@ -30,7 +30,8 @@ module _ (things : List Numbered) where
   FirstPlace Holds None = (place : ℕ) → place < length things → Holds place → ⊥
   FirstPlace Holds (Some place) = IsFirstPlace Holds place
 
-  -- the same at a panel, and at no panel before of any
+  -- at a panel something holds of the thing at a place, and no thing of which it holds there comes before that one; at
+  -- no panel before does it hold of any thing
   pub record IsFirstFound (Holds : ℕ → ℕ → Type 0) (panels : ℕ) (found : Found) : Type 0 where
     pub begins : 1 ≤ found.panel
     pub within : found.panel ≤ panels

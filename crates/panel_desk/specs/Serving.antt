@@ -85,7 +85,7 @@ module _ (site : Site) (kept : Retained) where
     pub serves : Serves bytes what before after sides conn served
     pub stores : Stores site kept old new before after
 
-  -- and the run stands for the ticks that were run then
+  -- one connection was served behind some ticks, and the run stands for all ticks that were run by then
   pub record ServesOne (before : List TickBlock) (conn : ConnSides) (sides : KeeperSides) (disks : Disks)
       (old run : Run) (served : Served) : Type 0 where
     pub after : List TickBlock

@@ -56,7 +56,7 @@ pub record IsNewest (panels from at : ℕ) (before : List Call) (word : Word) : 
   pub comes : Comes panels from at before word ⊎ (word ≡ empty_word)
   pub greatest : (other : Word) → Comes panels from at before other → other.stamp.0 ≤ word.stamp.0
 
--- the stamp of that word
+-- the stamp of the word that a panel keeps of another
 pub record IsHeard (panels from at : ℕ) (before : List Call) (stamp : ℕ) : Type 0 where
   pub word : Word
   pub is_newest : IsNewest panels from at before word

@@ -32,7 +32,8 @@ module _ (site : Site) (kept : Retained) (done : List Done) (panel : ℕ) where
   entries (Turned other task ∷ before) = entries before
   entries (Kept failed ∷ before) = entries before
 
-  -- those that are not yet kept: the ones since the latest turn of Keep that did not fail
+  -- the ticks in which the panel entered the fire alarm condition that are not yet kept: those since the latest turn of
+  -- Keep that did not fail, the latest first
   abbrev pub new_entries : List Moment → List ℕ
   new_entries [] = []
   new_entries (Began ∷ before) = new_entries before

@@ -17,7 +17,8 @@ module _ (site : Site) (kept : Retained) (done : List Done) where
     pub by_hand : (zone : ℕ) → facts.by_hand zone ≡ true → IsDueByHand site kept done moments zone panel
     pub faults : (source : ℕ) → facts.faulty source ≡ false
 
-  -- the same where both kinds are due by hand
+  -- facts in which only zones that are due by hand at a panel are true, for outputs and for manual call points, and no
+  -- fault
   pub record AreDueByHand (moments : List Moment) (panel : ℕ) (facts : Facts) : Type 0 where
     pub released : (zone : ℕ) → facts.released zone ≡ true → IsDueByHand site kept done moments zone panel
     pub by_hand : (zone : ℕ) → facts.by_hand zone ≡ true → IsDueByHand site kept done moments zone panel

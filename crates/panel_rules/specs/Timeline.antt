@@ -105,7 +105,8 @@ module _ (site : Site) (kept : Retained) where
   abbrev pub has_answer : List Moment → Bool
   has_answer moments = not (length (answers_now moments) == 0) || failed_now moments
 
-  -- it is told: a face is not as it was after the tick before, or there is an answer
+  -- a tick is told: a face is not as it was after the tick before, or in the tick an answer was given, or Keep's turn
+  -- failed
   abbrev pub is_told : List Moment → ℕ → Bool
   is_told moments tick =
       not (same_faces (faces_of (up_to tick moments)) (faces_of (up_to (tick - 1) moments)))

@@ -28,7 +28,7 @@ module _ (site : Site) (kept : Retained) (done : List Done) (told : ℕ → List
   abbrev pub latest_word : ℕ → List Moment → Word
   latest_word panel moments = word_made panel (made_at panel moments)
 
-  -- its word of a tick
+  -- the word of a panel of a tick: the latest one that it had made by the end of the tick
   abbrev pub word_of : ℕ → ℕ → List Moment → Word
   word_of panel tick moments = latest_word panel (up_to tick moments)
 

@@ -32,11 +32,11 @@ AllEnter site kept done history first [] = Unit {0}
 AllEnter site kept done history first (entering ∷ rest) =
     StandsForEntering site kept done first history entering × AllEnter site kept done history (first + 1) rest
 
--- a panel with a place among some from 1 on
+-- the number of a panel is a place in a list of the entries of panels, counted from 1 on
 abbrev pub IsAmong : List Entering → ℕ → Type 0
 IsAmong panels panel = (1 ≤ panel) × (panel ≤ length panels)
 
--- each is of some panel after some history
+-- each of some entries has answers that are those of some panel of a site after some history
 abbrev pub AllAsk : Site → List Entering → Type 0
 AllAsk site [] = Unit {0}
 AllAsk site (entering ∷ rest) = EntersSome site entering × AllAsk site rest
@@ -54,7 +54,8 @@ module _ (site : Site) (kept : Retained) (done : List Done) (tick : ℕ) where
       (panel : ℕ) (history : List Moment) → StandsForEntering site kept done panel history earlier
       → tick_of history ≡ tick → StandsForEntering site kept done panel (moment ∷ history) later
 
-  -- the same of a turn of the panel's own Hold
+  -- a turn more of a panel's own Hold in a tick stands in the entries of that panel, whatever the panel and what befell
+  -- before
   abbrev pub EntersAtHold : Entering → Entering → Type 0
   EntersAtHold earlier later =
       (panel : ℕ) (history : List Moment) → StandsForEntering site kept done panel history earlier

@@ -23,7 +23,7 @@ number_of exit.BadFile = 13
 number_of exit.BadRow = 14
 number_of exit.KeeperFault = 15
 
--- a command ends with a read fault only where the count of those of a stream has risen
+-- a command ends with a read fault only where the count of those of a stream has risen, or stands at its last value
 abbrev pub BlamesReads : Outcome → ℕ → ℕ → Type 0
 BlamesReads outcome before after = outcome.status ≡ number_of exit.ReadFault → Rose before after
 

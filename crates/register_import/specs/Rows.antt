@@ -36,7 +36,7 @@ bad_engineer = 3
 abbrev pub bad_point : ℕ
 bad_point = 4
 
--- another visit has the number of its visit
+-- why a row is refused: another visit has the number of its visit
 abbrev pub other_visit : ℕ
 other_visit = 5
 

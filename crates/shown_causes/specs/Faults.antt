@@ -17,7 +17,7 @@ abbrev pub told_after : ℕ → Bool → FaultTold → FaultTold
 told_after now fault told =
     record { lasts = fault; last = if told.lasts && not fault then Some (now - 1) else told.last }
 
--- the last tick by now at which it was told
+-- the last tick by now at which a fault of a panel was told
 abbrev pub told_last : ℕ → FaultTold → Option ℕ
 told_last now told = if told.lasts then Some now else told.last
 

@@ -18,7 +18,7 @@ pub record JournalDisk : Type 1 where
   pub kind : DiskKind
   pub now : kind.Of
 
--- what it is after a call, by what it told before
+-- the disk of a journal after a call, by what it told before the call
 module _ {D : Type 0} where
   abbrev pub disk_after : (D → Option (List ℕ)) → (D → Type 0) → (D → List ℕ → Type 0) → (D → ℕ)
       → (D → ℕ → List ℕ → Type 0) → D → Option (List ℕ) → JournalDisk
@@ -52,7 +52,8 @@ module _ (kind : DiskKind) (site : Site) (kept : Retained) (digest : List ℕ) w
         OpensToAcknowledged site kept digest before file ⊎ OpensToAcknowledged site kept digest (tick ∷ before) file)
     pub after : (file : List ℕ) → kind.images new file → OpensToAcknowledged site kept digest (tick ∷ before) file
 
-  -- so in each tick from the first ones on
+  -- in each tick behind some first ones, at each moment of its turns a power cut leaves a file that opens to all that
+  -- was acknowledged before that tick, or in it too; when its text is written, to all that was acknowledged in it too
   pub data LeavesTicks (before : List TickBlock) (old : kind.Of) : List TickBlock → kind.Of → Type 0 where
     no_tick : LeavesTicks before old before old
     and_tick : (tick : TickBlock) (after : List TickBlock) (mid new : kind.Of) → LeavesTicks before old after mid

@@ -44,7 +44,7 @@ module _ (site : Site) (kept : Retained) (done : List Done) (moments : List Mome
     pub held : IsHeld site kept done moments point first
     pub ended : first + round_of site.format ≤ now
 
-  -- it is for some round
+  -- a point of a kind is held for some round that begins after a tick and has ended before another
   abbrev pub IsHeldAfter : Kind → ℕ → ℕ → ℕ → Type 0
   IsHeldAfter kind after now point = (first : ℕ) × HeldAfter kind after now point first
 
