@@ -1,5 +1,6 @@
-ghost use Rattle.std.specs.Prelude.{◌≡◌};
-ghost use Rattle.panel_effects.specs.Masks.{hand_masks};
+ghost use Rattle.std.specs.Prelude.{◌≡◌, ◌≤◌};
+ghost use Rattle.site_types.specs.Limits.{most_panels};
+ghost use Rattle.panel_effects.specs.Masks.{HaveZonesOfFirst, hand_masks};
 
 use crate::heard::{are_heard, facts_heard};
 use cause_effect::{Facts, Plan, Steps, Values};
@@ -11,11 +12,15 @@ use std::sync::ledger::Ledger;
 #[derive(Drop)]
 pub struct Effects {
     facts: Facts,
+    /// How many panels, from the first on, may have zones in the facts.
+    reach: u8,
     /// The solution over the facts.
     normal: Values,
     /// The solution over what counts by hand.
     manual: Values,
     requests: Requests,
+    ghost few: { reach ≤ most_panels },
+    ghost within: { HaveZonesOfFirst reach facts },
 }
 
 impl Effects {
@@ -37,6 +42,7 @@ impl Effects {
         plan.solve(&facts, &mut values);
         Effects {
             facts,
+            reach: 0,
             normal: values,
             manual: values,
             requests: plan.requests(panel, &values, &values),
@@ -49,6 +55,24 @@ impl Effects {
         ensures steps { RisesByChanges plan.now facts.now self.old steps.old steps.new }
         ensures ruled { RisesByFactsOfRun plan.now panel facts.now self.old steps.old steps.new }
     {
+        self.turn_within(plan, panel, facts, 8, steps);
+    }
+
+    // Makes a turn over facts that have zones of the first so many panels alone, which is their reach.
+    fn turn_within<L: Ledger>(
+        &mut self,
+        plan: &Plan,
+        panel: u8,
+        facts: &Facts,
+        reach: u8,
+        steps: &mut Steps<L>,
+    )
+        requires few { reach ≤ most_panels }
+        requires within { HaveZonesOfFirst reach facts.now }
+        ensures stands { MakesEffectTurn plan.now panel facts.now self.old self.new }
+        ensures steps { RisesByChanges plan.now facts.now self.old steps.old steps.new }
+        ensures ruled { RisesByFactsOfRun plan.now panel facts.now self.old steps.old steps.new }
+    {
         if self.facts == *facts {
             return;
         }
@@ -57,7 +81,10 @@ impl Effects {
         plan.solve_changed(&self.facts, facts, &mut self.normal, steps);
         plan.solve_changed(&hand_before, &hand, &mut self.manual, steps);
         self.requests = plan.requests(panel, &self.normal, &self.manual);
+        // While the facts are replaced they may have zones of any panel.
+        self.reach = 8;
         self.facts = *facts;
+        self.reach = reach;
     }
 
     /// Makes a turn over what the words tell that the panel keeps of the panels of the ring. Each marker that is
@@ -75,9 +102,9 @@ impl Effects {
         ensures stands { TurnsByWords plan.now ring.now panel self.old self.new }
         ensures steps { RisesByWords plan.now ring.now panel self.old steps.old steps.new }
     {
-        if !are_heard(&self.facts, ring, panels, panel) {
+        if !are_heard(&self.facts, self.reach, ring, panels, panel) {
             let facts = facts_heard(ring, panels, panel);
-            self.turn(plan, panel, &facts, steps);
+            self.turn_within(plan, panel, &facts, panels, steps);
         }
     }
 

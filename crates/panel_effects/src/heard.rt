@@ -1,11 +1,12 @@
-ghost use Rattle.std.specs.Prelude.{◌≡◌, ◌≤◌, nat_le, true, if◌then◌else◌};
-ghost use Rattle.site_types.specs.Words.{empty_word};
-ghost use Rattle.panel_links.specs.Stands.{HasPanel, kept_in};
+ghost use Rattle.std.specs.Prelude.{◌≡◌, ◌↔◌, ◌≤◌, false, true};
+ghost use Rattle.site_types.specs.Limits.{most_panels};
+ghost use Rattle.panel_links.specs.Stands.{HasPanel};
 ghost use Rattle.panel_effects.specs.Heard.{TellsFacts};
+ghost use Rattle.panel_effects.specs.Masks.{HaveZonesOfFirst};
 
 use cause_effect::Facts;
 use panel_links::Ring;
-use site_types::{Word, with_bit_8};
+use site_types::with_bit_8;
 
 /// The facts that a turn of Effect of a panel made now goes by: what the words that the panel keeps of the panels
 /// of the ring say of zones, and which of them tell a fault. It isn't inlined, since the usual turns hear nothing new.
@@ -13,7 +14,8 @@ use site_types::{Word, with_bit_8};
 pub fn facts_heard(ring: &Ring, panels: u8, panel: u8) -> Facts
     requires size { ring.now.panels ≡ panels }
     requires member { HasPanel ring.now panel }
-    ensures { TellsFacts ring.now panel result }
+    ensures told { TellsFacts ring.now panel result }
+    ensures within { HaveZonesOfFirst panels result }
 {
     let mut zones = [0; 8];
     let mut manual = [0; 8];
@@ -33,15 +35,21 @@ pub fn facts_heard(ring: &Ring, panels: u8, panel: u8) -> Facts
     }
 }
 
-// Whether facts are those that a turn of Effect of a panel made now goes by.
-pub(crate) fn are_heard(facts: &Facts, ring: &Ring, panels: u8, panel: u8) -> bool
+// Whether facts are those that a turn of Effect of a panel made now goes by. They have zones of the first so many
+// panels alone, which is their reach, so no place is looked at that lies after these and after the ring's panels.
+pub(crate) fn are_heard(facts: &Facts, reach: u8, ring: &Ring, panels: u8, panel: u8) -> bool
+    requires few { reach ≤ most_panels }
+    requires within { HaveZonesOfFirst reach facts.now }
     requires size { ring.now.panels ≡ panels }
     requires member { HasPanel ring.now panel }
     ensures { result ≡ true → TellsFacts ring.now panel facts.now }
 {
+    if has_zones_after(facts, reach, panels) {
+        return false;
+    }
     let mut faults = 0;
-    for source in 1..9 {
-        let word = word_of(ring, panels, panel, source);
+    for source in 1..panels + 1 {
+        let word = ring.word(panel, source);
         let place = source as usize - 1;
         if facts.zones[place] != word.released || facts.manual[place] != word.manual {
             return false;
@@ -53,17 +61,17 @@ pub(crate) fn are_heard(facts: &Facts, ring: &Ring, panels: u8, panel: u8) -> bo
     facts.faults == faults
 }
 
-// The word that a panel keeps of another; one that tells of nothing where the ring has no such panel.
-fn word_of(ring: &Ring, panels: u8, panel: u8, source: u8) -> Word
-    requires size { ring.now.panels ≡ panels }
-    requires member { HasPanel ring.now panel }
-    requires source { 1 ≤ source }
-    ensures { result
-        ≡ (if nat_le source panels then kept_in ring.now panel source else empty_word) }
+// Whether facts have a zone of a panel after the first so many. Where their reach is no greater there is no place to
+// look at, as where all turns are made by words.
+fn has_zones_after(facts: &Facts, reach: u8, panels: u8) -> bool
+    requires few { reach ≤ most_panels }
+    requires within { HaveZonesOfFirst reach facts.now }
+    ensures { result ≡ false ↔ HaveZonesOfFirst panels facts.now }
 {
-    if source <= panels {
-        ring.word(panel, source)
-    } else {
-        Word::default()
+    for place in panels as usize..reach as usize {
+        if facts.zones[place] != 0 || facts.manual[place] != 0 {
+            return true;
+        }
     }
+    false
 }

@@ -8,9 +8,9 @@
 //! and the counter says how many they were, by the rules' own facts (`specs/ChangedFacts`). What is requested, and
 //! which zones are released, is what the rules say of the latest turn of Effect in the run (`specs/Changes`).
 //!
-//! No call takes memory. A turn in which no fact changed compares the facts and does nothing else. Otherwise it
-//! looks at a mark for each marker and at the terms of the markers that it evaluates, twice, and once at each
-//! output of the panel.
+//! No call takes memory. A turn in which no fact changed compares the facts, by words those of the ring's panels
+//! alone, and does nothing else. Otherwise it looks at a mark for each marker and at the terms of the markers that
+//! it evaluates, twice, and once at each output of the panel.
 #![tactic(auto)]
 
 mod effects;

@@ -1,8 +1,7 @@
-use Rattle.std.proofs.Common.{◌≡◌, ◌∙◌, ◌+◌, ◌-◌, ◌≤◌, ◌<◌, ℕ, slice_index_or, if◌then◌else◌, inl, inr, sym, ap, subst, arith, ◌≢◌, ◌^◌, Bool}
-use Rattle.std.proofs.lemmas.Bool.{eqb-true, le-leb, lt-leb}
+use Rattle.std.proofs.Common.{◌≡◌, ◌∙◌, ◌+◌, ◌-◌, ◌≤◌, ◌<◌, ℕ, slice_index_or, inl, inr, sym, ap, subst, arith, ◌≢◌, ◌^◌, Bool}
+use Rattle.std.proofs.lemmas.Bool.{eqb-true}
 use Rattle.site_types.specs.declared.word.Word.{Word}
 use Rattle.site_types.specs.Bits.{has_bit}
-use Rattle.site_types.specs.Words.{empty_word}
 use Rattle.site_types.proofs.Done.{lt_tells}
 use Rattle.site_types.proofs.Masks.{mask_is}
 use Rattle.site_types.specs.Valid.{IsPanel}
@@ -10,7 +9,6 @@ use Rattle.panel_links.specs.Stands.{kept_in}
 use Rattle.panel_rules.specs.Run.{facts_of, tells_fault}
 use Rattle.panel_rules.proofs.RingWords.{kept_by_ring}
 use Rattle.panel_effects.proofs.HeardMasks.{fault_heard, flags_heard, hand_heard, released_heard, zones_heard}
-use Rattle.panel_effects.proofs.heard.are_heard.Invariants.{told}
 use Rattle.panel_effects.proofs.heard.are_heard.Goals.{else-word, then-word}
 use Rattle.panel_effects.proofs.heard.are_heard.Goals as goal
 
@@ -32,15 +30,14 @@ pub loop-source-preserved : goal.loop-source-preserved
 loop-source-preserved c =
     let source = c.loop-source.source in
     let held = c.loop-source.invariant in
-    let more = c.loop-source-test.true in
     let first = c.loop-source.auto.source in
     let ring = c.args.ring.now in
-    let panels = c.args.panels in
+    let more : source ≤ 8 = omega (arith, c.loop-source-test.true, c.requires.size, ring.few) in
     let panel = c.args.panel in
     let masks = c.args.facts.now in
     let faults = c.if-word.faults in
-    let is = c.word_of-word.ensures in
-    let put : PutsFault c.loop-source.faults source c.word_of-word.result.fault faults =
+    let is = c.word-word.ensures.value in
+    let put : PutsFault c.loop-source.faults source c.word-word.result.fault faults =
     elim c.if-word.branch [
       | then-word w ↦ record {
         fits = (let same = w.faults-is in omega (arith, same));
@@ -58,13 +55,13 @@ loop-source-preserved c =
     record {
       fits = put.fits;
       zones =
-          one_more (λ q. slice_index_or masks.zones (q - 1) 0 ≡ (told ring panels panel q).released) source held.zones
+          one_more (λ q. slice_index_or masks.zones (q - 1) 0 ≡ (kept_in ring panel q).released) source held.zones
           (c.if-facts-place.false ∙ ap (λ (w : Word). w.released) is);
       manual =
-          one_more (λ q. slice_index_or masks.manual (q - 1) 0 ≡ (told ring panels panel q).manual) source held.manual
+          one_more (λ q. slice_index_or masks.manual (q - 1) 0 ≡ (kept_in ring panel q).manual) source held.manual
           (c.if-facts-place-2.false ∙ ap (λ (w : Word). w.manual) is);
       faulty =
-          one_more (λ q. has_bit faults (q - 1) ≡ (told ring panels panel q).fault) source
+          one_more (λ q. has_bit faults (q - 1) ≡ (kept_in ring panel q).fault) source
           (λ q low less. (
           put.others (q - 1) (omega (arith, less, more)) (λ same. absurd (omega (arith, same, less, low, first)))
           ∙ held.faulty q low less))
@@ -79,45 +76,36 @@ returns c same site kept done before valid stands =
     let size = stands.size in
     let told_size = c.requires.size in
     let panel = c.args.panel in
-    let panels = c.args.panels in
     let ring = c.args.ring.now in
     let masks = c.args.facts.now in
     let held = c.loop-source.invariant in
-    let ended = c.loop-source-test.false in
+    let within = c.has_zones_after.ensures.0 c.if-has_zones_after.false in
     let low : site.panels ≤ 8 = omega (arith, size, ring.few) in
     let p : IsPanel site panel = (c.requires.member.0, omega (arith, size, c.requires.member.1)) in
+    let told = tells_fault site kept done in
     let facts = facts_of site kept done panel before in
-    let read = λ (q : ℕ) (high : q ≤ 8). let small : q < c.loop-source.source = omega (arith, ended, high) in small in
-    let here = λ (q : ℕ) (iq : IsPanel site q).
-    ap (λ b. if b then kept_in ring panel q else empty_word) (le-leb q panels (omega (arith, size, told_size, iq.1)))
-    ∙ stands.words panel q (p.0, omega (arith, size, p.1)) (iq.0, omega (arith, size, iq.1))
-    ∙ kept_by_ring site kept done (tells_fault site kept done) before panel q low p iq in
-    let beyond_is = λ (q : ℕ) (beyond : site.panels < q).
-    ap (λ b. if b then kept_in ring panel q else empty_word) (lt-leb q panels (omega (arith, size, told_size, beyond))) in
+    let word = λ (q : ℕ) (iq : IsPanel site q).
+    stands.words panel q (p.0, omega (arith, size, p.1)) (iq.0, omega (arith, size, iq.1)) ∙ kept_by_ring site kept done told before panel q low p iq in
+    let read = λ (q : ℕ) (iq : IsPanel site q). let small : q < c.loop-source.source = omega (arith, size, told_size, iq.1, c.loop-source-test.false) in small in
+    let far = λ (q : ℕ) (beyond : site.panels < q). let long : c.loop-source.source ≤ q = omega arith in long in
+    let none = λ (q : ℕ) (beyond : site.panels < q) (high : q ≤ 8).
+    within (q - 1) (omega (arith, size, told_size, beyond)) (omega (arith, beyond, high)) in
     record {
       zones =
-          zones_heard site valid facts.released masks.zones (λ q. (told ring panels panel q).released)
-          (record {
-            wide = omega arith;
-            heard = λ q iq. held.zones q iq.0 (read q (omega (arith, iq.1, low)));
-            none = λ q beyond high. held.zones q (omega (arith, beyond)) (read q high) ∙ ap (λ (w : Word). w.released) (beyond_is q beyond);
-          })
-          (λ q iq. ap (λ (w : Word). w.released) (here q iq) ∙ released_heard site kept done panel before q);
+          zones_heard site valid facts.released masks.zones (λ q. (kept_in ring panel q).released)
+          (record { wide = omega arith; heard = λ q iq. held.zones q iq.0 (read q iq); none = λ q beyond high. (none q beyond high).0 })
+          (λ q iq. ap (λ (w : Word). w.released) (word q iq) ∙ released_heard site kept done panel before q);
       manual =
-          zones_heard site valid facts.by_hand masks.manual (λ q. (told ring panels panel q).manual)
-          (record {
-            wide = omega arith;
-            heard = λ q iq. held.manual q iq.0 (read q (omega (arith, iq.1, low)));
-            none = λ q beyond high. held.manual q (omega (arith, beyond)) (read q high) ∙ ap (λ (w : Word). w.manual) (beyond_is q beyond);
-          })
-          (λ q iq. ap (λ (w : Word). w.manual) (here q iq) ∙ hand_heard site kept done panel before q);
+          zones_heard site valid facts.by_hand masks.manual (λ q. (kept_in ring panel q).manual)
+          (record { wide = omega arith; heard = λ q iq. held.manual q iq.0 (read q iq); none = λ q beyond high. (none q beyond high).1 })
+          (λ q iq. ap (λ (w : Word). w.manual) (word q iq) ∙ hand_heard site kept done panel before q);
       faults =
           eqb-true masks.faults c.loop-source.faults same
           ∙ mask_is 8 c.loop-source.faults held.fits
-          ∙ flags_heard site facts.faulty (has_bit c.loop-source.faults) (λ q. (told ring panels panel q).fault)
+          ∙ flags_heard site facts.faulty (has_bit c.loop-source.faults) (λ q. (kept_in ring panel q).fault)
           (record {
-            heard = λ q iq. held.faulty q iq.0 (read q (omega (arith, iq.1, low)));
-            none = λ q beyond high. held.faulty q (omega (arith, beyond)) (read q high) ∙ ap (λ (w : Word). w.fault) (beyond_is q beyond);
+            heard = λ q iq. held.faulty q iq.0 (read q iq);
+            none = λ q beyond high. held.no_faulty q (omega arith) (far q beyond) high;
           })
-          (λ q iq. ap (λ (w : Word). w.fault) (here q iq) ∙ fault_heard site kept done panel before q);
+          (λ q iq. ap (λ (w : Word). w.fault) (word q iq) ∙ fault_heard site kept done panel before q);
     }

@@ -1,4 +1,4 @@
-use Rattle.std.proofs.Common.{◌∙◌, ◌≤◌, ◌<◌, ℕ, ap, arith, rules}
+use Rattle.std.proofs.Common.{◌≡◌, ◌∙◌, ◌+◌, ◌-◌, ◌≤◌, ◌<◌, ℕ, slice_index_or, ap, subst, arith, rules}
 use Rattle.site_types.specs.declared.word.Word.{Word}
 use Rattle.site_types.specs.Bits.{has_bit}
 use Rattle.site_types.proofs.Masks.{mask_is}
@@ -9,8 +9,8 @@ use Rattle.panel_rules.proofs.RingWords.{kept_by_ring}
 use Rattle.panel_effects.proofs.HeardMasks.{fault_heard, flags_heard, hand_heard, released_heard, zones_heard}
 use Rattle.panel_effects.proofs.heard.facts_heard.Goals as goal
 
-pub returns : goal.returns
-returns c site kept done before valid stands =
+pub returns-clause-told : goal.returns-clause-told
+returns-clause-told c site kept done before valid stands =
     let size = stands.size in
     let told_size = c.requires.size in
     let panel = c.args.panel in
@@ -50,6 +50,15 @@ returns c site kept done before valid stands =
           })
           (λ q iq. ap (λ (w : Word). w.fault) (word q iq) ∙ fault_heard site kept done panel before q);
     }
+
+pub returns-clause-within : goal.returns-clause-within
+returns-clause-within c place late small =
+    let held = c.loop-source.invariant in
+    let here : place + 1 - 1 ≡ place = omega arith in
+    let far : c.loop-source.source ≤ place + 1 = omega (arith, late, c.requires.size, c.args.ring.now.few) in (
+      subst (λ k. slice_index_or c.loop-source.zones k 0 ≡ 0) here (held.no_zones (place + 1) (omega arith) far (omega (arith, small))),
+      subst (λ k. slice_index_or c.loop-source.manual k 0 ≡ 0) here (held.no_manual (place + 1) (omega arith) far (omega (arith, small))),
+    )
 
 pub loop-source-preserved : goal.loop-source-preserved
 loop-source-preserved c = record {

@@ -6,11 +6,15 @@ use Rattle.panel_effects.proofs.effects.Effects.turn_by_words.Goals as goal
 
 pub returns-then-not-are_heard-clause-stands : goal.returns-then-not-are_heard-clause-stands
 returns-then-not-are_heard-clause-stands g c site kept done before is stands has =
-    c.turn.ensures.stands site (facts_of site kept done) before is has (c.facts_heard-facts.ensures site kept done before is.table.valid stands)
+    c.turn_within.ensures.stands site (facts_of site kept done) before is
+    (record { masks = has.masks; normal = has.normal; manual = has.manual; requests = has.requests })
+    (c.facts_heard-facts.ensures.told site kept done before is.table.valid stands)
 
 pub returns-then-not-are_heard-clause-steps : goal.returns-then-not-are_heard-clause-steps
 returns-then-not-are_heard-clause-steps g c site kept done before is stands has =
-    c.turn.ensures.ruled site (facts_of site kept done) before is has (c.facts_heard-facts.ensures site kept done before is.table.valid stands)
+    c.turn_within.ensures.ruled site (facts_of site kept done) before is
+    (record { masks = has.masks; normal = has.normal; manual = has.manual; requests = has.requests })
+    (c.facts_heard-facts.ensures.told site kept done before is.table.valid stands)
 
 pub returns-else-not-are_heard-clause-steps : goal.returns-else-not-are_heard-clause-steps
 returns-else-not-are_heard-clause-steps g c site kept done before is stands has =

@@ -3,11 +3,12 @@ use Rattle.marker_table.specs.Equations.{values_of}
 use Rattle.panel_effects.specs.Stands.{facts_at_effect}
 use Rattle.panel_effects.proofs.Changed.{no_step, rose_both, rose_by_facts}
 use Rattle.panel_effects.proofs.Turned.{after_same, after_turn, hand_solved}
-use Rattle.panel_effects.proofs.effects.Effects.turn.Goals as goal
+use Rattle.panel_effects.proofs.effects.Effects.turn_within.Goals as goal
 
 pub returns-then-eq-clause-stands : goal.returns-then-eq-clause-stands
 returns-then-eq-clause-stands g c site facts before is h are =
-    after_same site facts c.args.panel before c.args.self.now c.args.facts.now (equal_facts c.args.self.now.facts c.args.facts.now c.if-eq.ensures) h are
+    let kept = after_same site facts c.args.panel before c.args.self.now c.args.facts.now (equal_facts c.args.self.now.facts c.args.facts.now c.if-eq.ensures) h are in
+    record { masks = kept.masks; normal = kept.normal; manual = kept.manual; requests = kept.requests }
 
 pub returns-then-eq-clause-steps : goal.returns-then-eq-clause-steps
 returns-then-eq-clause-steps g c site is =
