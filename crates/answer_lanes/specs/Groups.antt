@@ -13,7 +13,8 @@ use Rattle.answer_lanes.specs.Points.{heard_at}
 abbrev pub IsMatching : Heard → Bool → Bool → Type 0
 IsMatching heard quiet silent = ((heard ≡ Quiet) × (quiet ≡ true)) ⊎ ((heard ≡ Silent) × (silent ≡ true))
 
--- of eight answers of a group, from the one at a place on, the bits are set of those that are so, and of no others
+-- of eight answers of a group, from the one at a place on, the bits are set of those that are quiet with their bit set
+-- in a first byte or silent with it set in a second one, and of no others
 pub record AreMatching (group : AnswerGroup) (from quiet silent bits : ℕ) : Type 0 where
   pub set : (k : ℕ) → k < 8 → has_bit bits k ≡ true
       → IsMatching (heard_at group.alarms group.silents (from + k)) (has_bit quiet k) (has_bit silent k)

@@ -26,7 +26,7 @@ module _ (site : Site) (timeline : Timeline) (kept : Retained) (done : List Done
     pub heard : MayBeHeard site moments panel (panel_of_zone site zone) stamp
     pub cause : IsCausedByHand site kept done moments zone stamp
 
-  -- at such a stamp a panel showed a fault
+  -- at some stamp that a panel may have heard of another one or of itself, that one showed a fault
   pub record CanTellFault (panel source : ℕ) : Type 0 where
     pub stamp : ℕ
     pub heard : MayBeHeard site moments panel source stamp
@@ -45,8 +45,8 @@ module _ (site : Site) (timeline : Timeline) (kept : Retained) (done : List Done
     pub by_hand : (zone : ℕ) → facts.by_hand zone ≡ true → CanBeHeardByHand panel zone
     pub faults : (source : ℕ) → facts.faulty source ≡ true → CanTellFault panel source
 
-  -- an output that is on can have a cause: such facts make its marker true. A fact more makes no marker false, so
-  -- this says that its marker is true over all of them
+  -- an output that is on can have a cause: facts each true one of which its panel can have heard make its marker
+  -- true. A fact more makes no marker false, so this says that its marker is true over all such facts
   pub record CanBeOn (output : ℕ) : Type 0 where
     pub facts : Facts
     pub caused : CanBeTrue (panel_of_output site output) facts

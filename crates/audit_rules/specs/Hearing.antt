@@ -9,8 +9,8 @@ use Rattle.panel_rules.specs.Ring.{AreJoined}
 abbrev pub network_start : Site → ℕ → ℕ
 network_start site tick = tick - network_of site.format + 1
 
--- the stamp is not later than now; and where the two panels have been joined for long enough, it isn't older than
--- that. A panel is joined to itself
+-- a panel may have heard a stamp of another one: the stamp is not later than now, and where the two have been joined
+-- for the ticks in which a word comes to each panel, it isn't older than so many ticks. A panel is joined to itself
 pub record MayBeHeard (site : Site) (moments : List Moment) (panel source stamp : ℕ) : Type 0 where
   pub past : stamp ≤ tick_of moments
   pub recent : AreJoined site.panels moments source panel (network_start site (tick_of moments)) (tick_of moments)

@@ -22,7 +22,7 @@ module _ (site : Site) (kept : Retained) (done : List Done) (moments : List Mome
     pub asked : IsAskedAt site point tick
     pub signals : SignalsAt site kept done moments point tick
 
-  -- each of its answers counts from one asking to another one
+  -- each answer of a point counts from a tick in which the point is asked through the same or a later tick
   pub record CountsThrough (point first last : ℕ) : Type 0 where
     pub begins : CountsAt point first
     pub rising : first ≤ last

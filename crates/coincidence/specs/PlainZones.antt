@@ -28,7 +28,7 @@ pub record IsSaidAt (x : ℕ) (reset : LastDone) (zone : PlainZone) (watch : Zon
   pub floor : zone.floor.0 ≡ max (last_at x reset) (last_at x watch.moved)
   pub settled : zone.settled ≡ true → IsSettledAt x reset watch
 
--- what is said so of a zone holds by what is kept
+-- what is said of a plain zone holds at a tick, by what is kept
 abbrev pub IsKnown : ℕ → Decide → PlainZone → Type 0
 IsKnown x decide zone =
     (watch : ZoneWatch) → slice_get decide.zones.items zone.zone ≡ Some watch → IsSaidAt x decide.reset zone watch
@@ -38,7 +38,7 @@ abbrev pub KnowsZone : ℕ → Decide → Option PlainZone → Type 0
 KnowsZone x decide None = Unit {0}
 KnowsZone x decide (Some zone) = IsKnown x decide zone
 
--- what is said of a zone stays so
+-- what is said of a plain zone and holds at a tick by what was kept still holds by what is kept now
 abbrev pub KeepsKnown : Decide → Decide → Type 0
 KeepsKnown old decide = (x : ℕ) (zone : PlainZone) → IsKnown x old zone → IsKnown x decide zone
 

@@ -26,7 +26,7 @@ abbrev pub after_words : ℕ → ℕ → Lcg
 after_words seed zero = seeded seed
 after_words seed (suc n) = (pcg32 (after_words seed n)).1
 
--- the word behind so many
+-- the word that the generator of a seed draws when so many words were drawn
 abbrev pub word_behind : ℕ → ℕ → ℕ
 word_behind seed n = (pcg32 (after_words seed n)).0
 

@@ -14,7 +14,7 @@ pub record LastsSince (Holds : ℕ → Type 0) (now since : ℕ) : Type 0 where
   pub ended : since ≡ 0 → 1 ≤ now → Holds now → ⊥
   pub began : (before : ℕ) → 1 ≤ before → before + 1 ≡ since → Holds before → ⊥
 
--- since when it lasts after one more tick
+-- the tick since which something lasts, after one more tick in which it holds or not; 0 where it doesn't
 abbrev pub since_with : ℕ → Bool → ℕ → ℕ
 since_with now false since = 0
 since_with now true since = if since == 0 then now else since

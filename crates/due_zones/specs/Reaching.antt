@@ -28,7 +28,7 @@ abbrev pub CameRound : ℕ → ℕ → Option ℕ → Type 0
 CameRound format settled None = ⊥
 CameRound format settled (Some first) = settled + settled_of format ≤ first
 
--- there is a signal, and it is due
+-- there is a signal of a zone, and it is due at a panel
 abbrev pub IsDueFrom : Site → Retained → List Done → List Moment → ℕ → ℕ → Option ℕ → Type 0
 IsDueFrom site kept done moments zone panel None = ⊥
 IsDueFrom site kept done moments zone panel (Some settled) = IsDueAfter site kept done moments zone panel settled

@@ -26,15 +26,15 @@ module _ (site : Site) (kept : Retained) (done : List Done) (told : Told) (panel
       answered_faults site kept panel done (held_answers site panel (turn ∷ before)) (tick_of (turn ∷ before))
       (outside_now site kept done told panel before)
 
-  -- whether such a word tells a fault
+  -- whether the word that a turn of Hold made tells a fault
   abbrev pub fault_told : List Moment → Bool
   fault_told word = has_fault (faults_told word)
 
-  -- the faults at the latest turn
+  -- the faults that stood at the latest turn of the panel's Hold, none where it had no turn
   abbrev pub latest_faults : List Moment → FaultSet
   latest_faults moments = faults_told (made_at panel moments)
 
-  -- the latest word
+  -- the latest word that the panel made, by what the panel is told from elsewhere
   abbrev pub word_told : List Moment → Word
   word_told moments = word_made site kept done (λ source. fault_told) panel (made_at panel moments)
 

@@ -19,7 +19,7 @@ abbrev pub outside_now : Site → Retained → List Done → Told → ℕ → Li
 outside_now site kept done told panel before =
     outside_at site told.facts kept done (told.stamps before) (told.up before) panel before
 
--- a turn made now
+-- a turn of a panel's Hold made now, by what the panel is told from elsewhere
 abbrev pub hold_turn : Site → Retained → List Done → Told → ℕ → List Moment → HoldTurn
 hold_turn site kept done told panel before =
     turn_from (tick_of before) (finding_lane site kept done panel before)

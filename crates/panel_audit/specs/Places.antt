@@ -25,7 +25,7 @@ module _ (things : List Numbered) where
     pub least : (other : ℕ) (one : Numbered) → slice_get things other ≡ Some one → Holds other
         → is_lower (standing_of one) (standing_of thing) ≡ false
 
-  -- of the things that one, or of none it holds
+  -- the place of the first thing of which something holds, or none where it holds of no thing
   abbrev pub FirstPlace : (ℕ → Type 0) → Option ℕ → Type 0
   FirstPlace Holds None = (place : ℕ) → place < length things → Holds place → ⊥
   FirstPlace Holds (Some place) = IsFirstPlace Holds place

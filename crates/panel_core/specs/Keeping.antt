@@ -52,7 +52,7 @@ pub record HasTurned (site : Site) (kept : Retained) (moments : List Moment) (st
   pub keeps : KeepsRun site kept moments journal
   pub answers : store ≡ store_of (keep_answer (has_failed store) (batch site kept (before_keep moments)))
 
--- Keep may have its turn, and answer so
+-- Keep may have its turn now in a run that the system stands for, with this answer
 pub record MayNoteKept (store : Store) (system : System) : Type 0 where
   pub site : Site
   pub kept : Retained

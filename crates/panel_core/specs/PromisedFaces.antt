@@ -131,7 +131,8 @@ module _ (system : System) (panel : ℕ) (face : Face) where
   ShowsIndicatedOutput = OfEachOutput system (λ site kept moments output plan. plan.panel ≡ panel
       → IsIndicated site kept (done_so_far site kept moments) moments output → shows_output face plan ≡ true)
 
-  -- one whose marker zones make true that signalled for long enough is shown on
+  -- an output without a delay, neither disabled nor a quiet sounder, is shown on where its marker is made true by zones
+  -- alone that have signalled for long enough
   abbrev pub ShowsSignalledOutput : Type 0
   ShowsSignalledOutput = OfEachOutput system (λ site kept moments output plan. plan.panel ≡ panel
       → IsSignalled site kept (done_so_far site kept moments) moments output plan → shows_output face plan ≡ true)
@@ -223,7 +224,7 @@ module _ (system : System) (panel : ℕ) (face : Face) where
       → face.counter ≡ min
       (counter_in panel kept + counted_entries site kept (done_so_far site kept moments) panel moments) greatest_count)
 
-  -- that of one that somebody cleared is the entries that were kept since
+  -- the counter of a panel that somebody cleared is the entries that were kept since, up to 999,999
   abbrev pub ClearedCounterAddsUp : Type 0
   ClearedCounterAddsUp = InEachRun system (λ site kept moments. (before : List Moment) → length kept.counters ≡ 8
       → AreCounters kept.counters → IsLastCleared site kept panel before moments

@@ -35,7 +35,7 @@ IsAtHand site kept ticks (Tick changed) run =
     × (run.next.items ≡ faces_of site kept (moments before)) × (changed ≡ false → run.next.items ≡ run.shown.items)
 IsAtHand site kept ticks (Other reply) run = Unit {0}
 
--- a reply was made and this was done for it
+-- a reply was made, and of the ticks that were run by its end something holds that tells what was done for it
 pub record HasReplied (Does : List TickBlock → Type 0) (site : Site) (kept : Retained) (ticks : List TickBlock)
     (disks : Disks) (reply : Reply) (old run : Run) : Type 0 where
   pub after : List TickBlock
@@ -54,7 +54,8 @@ IsOfSite site route.Visits = Unit {0}
 IsOfSite site (route.Untested day) = Unit {0}
 IsOfSite site route.Stop = Unit {0}
 
--- a register of these points may be asked
+-- a request may be replied to: it asks for what the site has, its body is short enough, the run has room for a tick,
+-- and the points of the register are those of the site
 pub record MayReply (asked : Route) (body : List ℕ) (points : List PointRow) (run : Run) : Type 0 where
   pub site : Site
   pub kept : Retained

@@ -19,7 +19,7 @@ use Rattle.panel_rules.specs.Timeline.{answers_now, failed_now, told}
 use Rattle.panel_node.specs.declared.node.Node.{Node}
 use Rattle.panel_node.specs.Stands.{NodeStandsFor}
 
--- for whatever history it stands for, the face is that of the rules
+-- for whatever history a panel by itself stands for, its face is that of the rules
 abbrev pub ShowsFace : Node → Face → Type 0
 ShowsFace node face =
     (site : Site) (panel : ℕ) (kept : Retained) (history : List NodeMoment)
@@ -40,7 +40,7 @@ StaysInGrammar node frame =
     → NodeStandsFor site panel kept history node → IsRun site.panels (befallen history)
     → tick_of (befallen history) ≤ last_tick → is_neighbour site.panels at panel ≡ true → IsFrame site at frame
 
--- what it answers is what the rules answer in the tick that began last
+-- what a panel by itself answers is what the rules answer in the tick that began last
 abbrev pub AnswersAsRuled : Node → Answers → Type 0
 AnswersAsRuled node answers =
     (site : Site) (panel : ℕ) (kept : Retained) (history : List NodeMoment)

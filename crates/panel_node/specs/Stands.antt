@@ -53,7 +53,7 @@ pub record NodeStandsFor (site : Site) (panel : ℕ) (kept : Retained) (history 
   pub things : HasNoStrangeBits site node.settings
   pub counts : CountsFor site kept (befallen history) node.counts
 
--- at the end of a tick its parts and settings have these operations applied
+-- at the end of a tick a list of operations is applied to the parts and settings of a panel by itself
 pub record NodeHasApplied (site : Site) (panel : ℕ) (kept : Retained) (history : List NodeMoment) (done : List Done)
     (node : Node) : Type 0 where
   pub valid : IsValid site

@@ -156,7 +156,7 @@ module _ {kind : DiskKind} (site : Site) (kept : Retained) (p : Progress) where
     pub is_at : IsAt site kept after p' reader run
     pub wrote : Writes site kept old new p.run p'.run
 
-  -- or it has ended
+  -- bytes more were taken, and the run has ended
   pub record HasEnded (after : List ℕ) (end : RunEnd) (old new : Outside kind) (run : Run) : Type 0 where
     pub ticks : List TickBlock
     pub ended : EndsAt site after end

@@ -18,11 +18,11 @@ module _ (site : Site) (kept : Retained) (done : List Done) (panel : ℕ) where
   abbrev pub is_in_fire_alarm : List Moment → Bool
   is_in_fire_alarm moments = not (zones_where site panel (holds_alarm site kept done panel moments) == 0)
 
-  -- a turn of Hold made now brings the panel into it
+  -- a turn of Hold made now brings the panel into the fire alarm condition
   abbrev pub enters : List Moment → Bool
   enters before = is_in_fire_alarm (Turned panel Hold ∷ before) && not (is_in_fire_alarm before)
 
-  -- the ticks in which the panel entered it, the latest first
+  -- the ticks in which the panel entered the fire alarm condition, the latest first
   abbrev pub entries : List Moment → List ℕ
   entries [] = []
   entries (Began ∷ before) = entries before
@@ -43,7 +43,7 @@ module _ (site : Site) (kept : Retained) (done : List Done) (panel : ℕ) where
   new_entries (Turned other task ∷ before) = new_entries before
   new_entries (Kept failed ∷ before) = if failed then new_entries before else []
 
-  -- the change that counts them, where there are any
+  -- the change that counts the entries of the panel into the fire alarm condition at some ticks, where there are any
   abbrev pub count_of : List ℕ → List Change
   count_of [] = []
   count_of (tick ∷ ticks) = Count panel (length (tick ∷ ticks)) ∷ []

@@ -24,7 +24,8 @@ module _ (site : Site) (kept : Retained) (done : List Done) where
     pub by_hand : (zone : ℕ) → facts.by_hand zone ≡ true → IsDueByHand site kept done moments zone panel
     pub faults : (source : ℕ) → facts.faulty source ≡ false
 
-  -- an output is due to be asked: such facts make its marker true
+  -- an output is due to be asked: facts in which only zones that are due at its panel are true, and no fault, make
+  -- its marker true
   pub record IsDueAsked (moments : List Moment) (output : ℕ) : Type 0 where
     pub facts : Facts
     pub due : AreDue moments (panel_of_output site output) facts

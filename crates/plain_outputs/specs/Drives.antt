@@ -109,7 +109,7 @@ module _ (site : Site) (facts : ℕ → List MomentOf → Facts) where
     pub found : slice_get seen place ≡ Some turn
     pub is_seen : IsSeen (TurnedOf panel task) before turn
 
-  -- where it was seen, if there was one
+  -- the place at which the latest turn of a panel's task was seen, or none where there was no such turn
   abbrev pub IsLatest : ℕ → Task → List Seen → List MomentOf → Option ℕ → Type 0
   IsLatest panel task seen history None = before_latest panel task history ≡ None
   IsLatest panel task seen history (Some place) = IsLatestAt panel task seen history place

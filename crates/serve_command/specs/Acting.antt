@@ -69,7 +69,7 @@ module _ (site : Site) (kept : Retained) where
     pub is_at : IsAt next after
     pub few : length (moments next) ≤ length (moments ticks) + 2 ^ 17
 
-  -- or the door gave none
+  -- the door gave no connection to serve
   pub record GivesNone {kind : DiskKind} (old new : World kind) (door : DoorSides) (before after : Counter) : Type 0
     where
       pub world : new ≡ old

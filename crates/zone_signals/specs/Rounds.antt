@@ -48,14 +48,16 @@ module _ (site : Site) (kept : Retained) (done : List Done) (moments : List Mome
   abbrev pub IsHeldAfter : Kind → ℕ → ℕ → ℕ → Type 0
   IsHeldAfter kind after now point = (first : ℕ) × HeldAfter kind after now point first
 
-  -- some point of a zone is, besides one
+  -- some point of a kind in a zone, besides one where one is named, is held for some round that begins after a tick
+  -- and has ended before another
   pub record HasHeldAfter (kind : Kind) (besides : Option ℕ) (zone after now : ℕ) : Type 0 where
     pub point : ℕ
     pub of_zone : is_of site zone point ≡ true
     pub other : is_besides besides point ≡ true
     pub is : IsHeldAfter kind after now point
 
-  -- two points of a zone are, the rounds of the second one after a later tick
+  -- two points of a kind in a zone are held for rounds that have ended before a tick, the first one for a round that
+  -- begins after some tick, the second one for a round that begins after a later tick
   pub record HasTwoHeldAfter (kind : Kind) (zone after later now : ℕ) : Type 0 where
     pub first_point : ℕ
     pub second_point : ℕ
