@@ -65,7 +65,8 @@ pub data HasSignalledFor (site : Site) (kept : Retained) (done : List Done) (mom
       → WereJoined site moments (panel_of_zone site zone) panel
       → HasSignalledFor site kept done moments zone panel
 
--- an output without a delay, neither disabled nor a quiet sounder, whose marker such zones alone make true
+-- an output without a delay, neither disabled nor a quiet sounder, whose marker is true over zones alone that have
+-- signalled for its panel for long enough
 pub record IsSignalled (site : Site) (kept : Retained) (done : List Done) (moments : List Moment) (output : ℕ)
     (plan : Output) : Type 0 where
   pub is : slice_get site.outputs output ≡ Some plan

@@ -26,7 +26,7 @@ ShowsFace node face =
     → NodeStandsFor site panel kept history node → IsRun site.panels (befallen history)
     → face ≡ node_face site panel history kept
 
--- what it hands to its neighbours is the frame of the rules
+-- what a panel by itself hands to its neighbours is the frame of the rules
 abbrev pub SendsFrame : Node → Frame → Type 0
 SendsFrame node frame =
     (site : Site) (panel : ℕ) (kept : Retained) (history : List NodeMoment)

@@ -69,7 +69,8 @@ module _ (site : Site) (kept : Retained) (done : List Done) (moments : List Mome
     pub one : HeldAfter kind after now first_point first
     pub two : HeldAfter kind later now second_point second
 
-  -- two points that make a pair for a zone are, the first after a tick that goes by the zones of both
+  -- two points that make a pair for a zone are held for rounds, the first for one that begins after a tick that goes by
+  -- the zones of both, the second for one that begins after a later tick
   pub record HasPairAfter (kind : Kind) (zone : ℕ) (bar : ℕ → ℕ) (later now : ℕ) : Type 0 where
     pub first_point : ℕ
     pub second_point : ℕ
@@ -87,13 +88,14 @@ module _ (site : Site) (kept : Retained) (done : List Done) (moments : List Mome
     pub detects : is_detector site point ≡ true
     pub through : SignalsThrough site kept done moments point first now
 
-  -- some detector of a zone does
+  -- some detector of a zone signals at each tick from a first one on and before another
   pub record HasDetectorThrough (zone first now : ℕ) : Type 0 where
     pub point : ℕ
     pub of_zone : is_of site zone point ≡ true
     pub is : DetectorThrough point first now
 
--- whether the points are so, by the runs of the ticks at which they signal, whatever was retained, done and befell
+-- whether something holds of the points, by the runs of the ticks at which they signal, whatever was retained, done and
+-- befell
 abbrev pub TellsRuns : (Retained → List Done → List Moment → Type 0) → Site → List PointRun → ℕ → Bool → Type 0
 TellsRuns AreSo site runs now result =
     (kept : Retained) (done : List Done) (moments : List Moment) → AreRuns site kept done moments now runs
