@@ -11,4 +11,3 @@ pub mod SameBits
 pub mod Marks
 pub mod EqualFaces
 pub mod SameFaces
-pub mod SameMasks

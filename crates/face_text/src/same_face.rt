@@ -1,12 +1,11 @@
-//! Whether two faces show the same. Masks are compared each with each, since `==` of two arrays is a call that takes
-//! several times as many instructions, and all faces are compared in each tick in which some face may change.
+//! Whether two faces show the same. All faces are compared in each tick in which some face may change.
 
 ghost use Rattle.std.specs.Prelude.{◌≡◌, bytes_eq};
 ghost use Rattle.face_text.specs.Faces.{same_face, same_faults as alike_faults, same_points as alike_points};
 ghost use Rattle.face_text.specs.Faces.{same_faces, same_settings as alike_settings};
 
 use crate::face::Face;
-use site_types::{FaultSet, PointSet};
+use site_types::{FaultSet, PointSet, same_masks};
 
 /// Whether two faces show the same.
 pub fn show_same(one: &Face, other: &Face) -> bool
@@ -75,12 +74,4 @@ fn same_halves(one: &[u128; 2], other: &[u128; 2]) -> bool
     ensures { result ≡ bytes_eq one.now other.now }
 {
     one[0] == other[0] && one[1] == other[1]
-}
-
-fn same_masks(one: &[u32; 8], other: &[u32; 8]) -> bool
-    ensures { result ≡ bytes_eq one.now other.now }
-{
-    let [a, b, c, d, e, f, g, h] = *one;
-    let [i, j, k, l, m, n, o, p] = *other;
-    a == i && (b == j && (c == k && (d == l && (e == m && (f == n && (g == o && h == p))))))
 }

@@ -1,6 +1,6 @@
 use Rattle.std.proofs.Common.{rules, ◌≡◌, ◌<◌, ℕ, zero, suc, arith, slice_index_or}
-use Rattle.face_text.proofs.SameMasks.{last_decides}
-use Rattle.face_text.proofs.same_face.same_masks.Goals as goal
+use Rattle.site_types.proofs.SameMasks.{last_decides}
+use Rattle.site_types.proofs.panel_masks.same_masks.Goals as goal
 
 pub returns-then-g-o : goal.returns-then-g-o
 returns-then-g-o c = last_decides 7 c.args.one.now c.args.other.now (search rules) (search rules) same
