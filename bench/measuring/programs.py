@@ -53,6 +53,14 @@ def processor_seconds(command, path="/dev/null"):
     return after.ru_utime + after.ru_stime - before.ru_utime - before.ru_stime
 
 
+def page_faults(command, path="/dev/null"):
+    """How many pages the system hands to one call."""
+    before = resource.getrusage(resource.RUSAGE_CHILDREN).ru_minflt
+    with open(path) as source:
+        subprocess.run(command, stdin=source, stdout=subprocess.DEVNULL, check=True)
+    return resource.getrusage(resource.RUSAGE_CHILDREN).ru_minflt - before
+
+
 def clock_seconds(command, path="/dev/null"):
     with open(path) as source:
         started = time.monotonic()

@@ -5,7 +5,7 @@ import random
 import subprocess
 
 from measuring.inputs import draws, large_site, record
-from measuring.programs import function_of, instructions, processor_seconds, text_of
+from measuring.programs import function_of, instructions, page_faults, processor_seconds, text_of
 
 TOP = pathlib.Path(__file__).resolve().parent.parent.parent
 TRIALS = pathlib.Path(os.environ.get("TRIALS", TOP / "crates" / "trials" / "out" / "trials"))
@@ -62,15 +62,27 @@ def measure_texts(panel, folder, seed, text, names):
     (room / "text" / "cases").write_text("text site.toml a.text\n")
     lists = room / "lists"
     lists.write_text("text\n")
-    times, counts, lengths = [], [], []
+    times, counts, lengths, pages = [], [], [], []
     for part in (TEXT_BYTES // 2, TEXT_BYTES):
         cut = whole[: whole.rindex(b"\n", 0, part) + 1] + b"none\n"
         (room / "a.text").write_bytes(cut)
         lengths.append(len(cut))
         counts.append(in_folder(room, instructions, [TRIALS], lists))
+        pages.append(in_folder(room, page_faults, [TRIALS], lists))
         times.append(min(in_folder(room, processor_seconds, [TRIALS], lists) for _ in range(7)))
     tell("read_faces", counts[1] - counts[0], lengths[1] - lengths[0])
-    print(f"read_faces: {1e3 * (times[1] - times[0]) * TEXT_BYTES / (lengths[1] - lengths[0]):,.1f} milliseconds of one processor for {TEXT_BYTES:,} bytes")
+    whole_text = TEXT_BYTES / (lengths[1] - lengths[0])
+    print(f"read_faces: {1e3 * (times[1] - times[0]) * whole_text:,.1f} milliseconds of one processor for {TEXT_BYTES:,} bytes")
+    taken = round((pages[1] - pages[0]) * whole_text)
+    print(f"of these a program takes {1e3 * filling(folder, taken):,.1f} that only fills as many pages of fresh memory, {taken:,}")
+
+
+def filling(folder, pages):
+    """The time of one processor that filling so many pages takes."""
+    filler = folder / "fresh_pages"
+    subprocess.run(["rustc", "-O", "--edition", "2021", "-o", filler, TOP / "bench" / "fresh_pages.rs"], check=True)
+    few, many = (min(processor_seconds([filler, str(count)]) for _ in range(7)) for count in (1, pages))
+    return many - few
 
 
 def in_folder(room, call, *words):
