@@ -1,11 +1,13 @@
 -- One marker more is passed after a change.
-use Rattle.std.proofs.Common.{◌≡◌, ◌≤◌, ◌<◌, ◌==◌, ◌+◌, ◌-◌, ◌||◌, ◌⊎◌, inl, inr, ℕ, zero, suc, Bool, true}
-use Rattle.std.proofs.Common.{false, List, [], ◌∷◌, Option, Some, length, take, get_or, refl, sym, ap, subst}
+use Rattle.std.proofs.Common.{◌≡◌, ◌≤◌, ◌<◌, ◌==◌, ◌+◌, ◌-◌, ◌&&◌, ◌||◌, ◌⊎◌, inl, inr, ℕ, zero, suc, Bool, true}
+use Rattle.std.proofs.Common.{false, List, [], ◌∷◌, Option, Some, nat_eq, length, take, get_or, refl, sym, ap, subst}
 use Rattle.std.proofs.Common.{◌∙◌, arith, if◌then◌else◌}
 use Rattle.std.specs.Prelude.{slice_get}
 use Rattle.std.specs.List.{list_any, IsDistinct}
 use Rattle.std.proofs.lemmas.Bool.{cases_lt}
-use Rattle.std.proofs.lemmas.Bool.Decides.{eqb_tells}
+use Rattle.std.specs.Cmp.Lexicographic.{pointwise}
+use Rattle.std.proofs.lemmas.Bool.Decides.{Decides-eqb, eqb_tells}
+use Rattle.std.proofs.lemmas.Slice.Eq.{slice_eq-Decides}
 use Rattle.std.proofs.lemmas.List.{take_all}
 use Rattle.std.proofs.lemmas.Map.Keys.{apart_from_distinct}
 use Rattle.std.proofs.lemmas.Option.{get_or_from_slice_get, slice_get_within}
@@ -26,7 +28,7 @@ use Rattle.cause_effect.proofs.Equations.{equation_same, has_within}
 use Rattle.cause_effect.proofs.Kept.{differ_self, not_true, value_kept}
 use Rattle.cause_effect.proofs.Orders.{order_is_free, stands}
 use Rattle.cause_effect.proofs.Solving.{among_more, is_solution, no_marker, Puts}
-use Rattle.cause_effect.proofs.Truths.{equal_number, number_is, or_left, or_right}
+use Rattle.cause_effect.proofs.Truths.{and_first, and_second, equal_number, number_is, or_left, or_right}
 
 -- ---- one marker more of a front
 
@@ -319,10 +321,21 @@ pub rose_by_none : (site : Site) (before after : Facts) (steps : ℕ) → AreEqu
     → RoseByNumberOf (DependsOnChanged site before after) steps steps
 rose_by_none site before after steps same = rose_where_free site before after steps (none_depends site before after same)
 
--- the masks of the same facts are the same
-pub equal_facts : (before after : Facts) → before ≡ after → AreEqual before after
-equal_facts before after same = record {
-  zones = ap (λ (facts : Facts). facts.zones) same;
-  manual = ap (λ (facts : Facts). facts.manual) same;
-  faults = ap (λ (facts : Facts). facts.faults) same;
+-- what `==` of two facts says
+pub equal_facts : (before after : Facts)
+    → true ≡ (pointwise nat_eq before.zones after.zones && (pointwise nat_eq before.manual after.manual && nat_eq before.faults after.faults))
+    → AreEqual before after
+equal_facts before after h = record {
+  zones = (slice_eq-Decides Decides-eqb before.zones after.zones _ refl).0 (and_first zones (manual && faults) (sym h));
+  manual = (slice_eq-Decides Decides-eqb before.manual after.manual _ refl).0 (and_first manual faults (and_second zones (manual && faults) (sym h)));
+  faults = number_is before.faults after.faults (and_second manual faults (and_second zones (manual && faults) (sym h)));
 }
+  where
+    zones : Bool
+    zones = pointwise nat_eq before.zones after.zones
+
+    manual : Bool
+    manual = pointwise nat_eq before.manual after.manual
+
+    faults : Bool
+    faults = nat_eq before.faults after.faults

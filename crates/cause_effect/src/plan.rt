@@ -70,7 +70,7 @@ impl Plan {
         ensures steps { (site : SiteOf) → IsPlanOf site self.now
             → RoseByNumberOf (DependsOnChanged site before.now after.now) steps.old steps.new }
     {
-        if before.is_same(after) {
+        if before == after {
             return;
         }
         let marks = self.users.marks_of(before, after);

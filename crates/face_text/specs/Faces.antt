@@ -93,15 +93,6 @@ same_buzzer Fault Fault = true
 same_buzzer Fire Fire = true
 same_buzzer _ _ = false
 
--- two faces show the same of disabled zones and outputs, zones in test, delays, buzzer and counter
-abbrev pub same_settings : Face → Face → Bool
-same_settings one other =
-    (one.zones_off == other.zones_off)
-    && ((one.outputs_off == other.outputs_off)
-    && ((one.test == other.test)
-    && (same_truth one.delays_off other.delays_off
-    && (same_buzzer one.buzzer other.buzzer && (one.counter == other.counter)))))
-
 -- two faces show the same
 abbrev pub same_face : Face → Face → Bool
 same_face one other =
@@ -110,7 +101,10 @@ same_face one other =
     && (bytes_eq one.firsts other.firsts && (same_faults one.faults other.faults
     && ((one.outputs == other.outputs)
     && ((one.confirmed == other.confirmed) && (same_points one.points_off other.points_off
-    && same_settings one other))))))
+    && ((one.zones_off == other.zones_off)
+    && ((one.outputs_off == other.outputs_off) && ((one.test == other.test)
+    && (same_truth one.delays_off other.delays_off
+    && (same_buzzer one.buzzer other.buzzer && (one.counter == other.counter))))))))))))
 
 -- the faces of all panels show the same
 abbrev pub same_faces : List Face → List Face → Bool

@@ -13,7 +13,6 @@ use crate::face::Face;
 use crate::face_pair::FacePair;
 use crate::group::Group;
 use crate::held::Held;
-use crate::same_face::show_same;
 use crate::words::{buzzer_word, group_word, kind_word, on_word};
 use arrayvec::ArrayString;
 use itoa::Buffer;
@@ -79,7 +78,7 @@ pub fn push_changes<K: Sink>(
 fn is_same_face(before: &Face, after: &Face) -> bool
     ensures { result ≡ true → before.now ≡ after.now }
 {
-    show_same(before, after)
+    before == after
 }
 
 /// How the lines of a group on the page of a panel begin.

@@ -8,7 +8,6 @@ use keep_turn::{Store, idle_turn, keep_turn};
 use panel_edges::Disk;
 use panel_parts::entries_of;
 use retained_journal::Journal;
-use site_types::same_masks;
 
 impl System {
     ghost use Rattle.panel_parts.specs.Entries.{TellsEntries};
@@ -93,14 +92,11 @@ pub fn has_failed(store: Store) -> bool
 fn are_same(counters: &[u32; 8], others: &[u32; 8]) -> bool
     ensures { result ≡ true → counters.now ≡ others.now }
 {
-    same_masks(counters, others)
+    counters == others
 }
 
-// Each with each, since `==` of two arrays is a call that takes several times as many instructions.
 fn are_kept(entries: &[u64; 8], kept: &[u64; 8]) -> bool
     ensures { result ≡ true → entries.now ≡ kept.now }
 {
-    let [a, b, c, d, e, f, g, h] = *entries;
-    let [i, j, k, l, m, n, o, p] = *kept;
-    a == i && b == j && c == k && d == l && e == m && f == n && g == o && h == p
+    entries == kept
 }

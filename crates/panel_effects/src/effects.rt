@@ -73,7 +73,7 @@ impl Effects {
         ensures steps { RisesByChanges plan.now facts.now self.old steps.old steps.new }
         ensures ruled { RisesByFactsOfRun plan.now panel facts.now self.old steps.old steps.new }
     {
-        if self.facts.is_same(facts) {
+        if self.facts == *facts {
             return;
         }
         let hand_before = by_hand(&self.facts);

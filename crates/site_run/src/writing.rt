@@ -12,7 +12,7 @@ ghost use Rattle.site_run.specs.Pages.{page_text};
 ghost use Rattle.site_run.specs.Pages.{written_text};
 
 use crate::lines::{opening_line, tick_line};
-use face_text::{Answers, Face, Held, all_show_same, push_answers, push_changes};
+use face_text::{Answers, Face, Held, push_answers, push_changes};
 use panel_edges::{Failed, Sink, SoundMemorySink, write_all};
 use site_types::Site;
 
@@ -92,7 +92,7 @@ impl TickPage<'_> {
         ensures { result ≡ not (same_faces self.now.after.now self.now.before.now) }
     {
         if self.changed {
-            !all_show_same(self.after, self.before)
+            !are_same(self.after, self.before)
         } else {
             false
         }
@@ -138,6 +138,13 @@ fn push_faces<K: Sink>(
         push_changes(site, &before[place], &after[place], held, out)?;
     }
     Ok(())
+}
+
+// Whether the faces of all panels show the same.
+fn are_same(one: &[Face], other: &[Face]) -> bool
+    ensures { result ≡ same_faces one.now other.now }
+{
+    one == other
 }
 
 fn has_answers(answers: &Answers) -> bool

@@ -57,29 +57,5 @@ fn search(names: &[Named], name: &[u8]) -> Result<usize, usize>
 fn order(named: &Named, name: &[u8]) -> Ordering
     ensures { result ≡ slice_cmp nat_cmp named.now.name.bytes name.now }
 {
-    compared(named.name.as_str().as_bytes(), name)
-}
-
-/// How a text stands to another in the order of bytes. Names are short: the comparison of slices, which is made for
-/// long ones, takes several times as many instructions.
-fn compared(text: &[u8], other: &[u8]) -> Ordering
-    ensures { result ≡ slice_cmp nat_cmp text.now other.now }
-{
-    let mut left = text;
-    let mut right = other;
-    while let [byte, behind @ ..] = left {
-        let [counterpart, rest @ ..] = right else {
-            return Ordering::Greater;
-        };
-        if byte != counterpart {
-            return byte.cmp(counterpart);
-        }
-        left = behind;
-        right = rest;
-    }
-    if right.is_empty() {
-        Ordering::Equal
-    } else {
-        Ordering::Less
-    }
+    named.name.as_str().as_bytes().cmp(name)
 }

@@ -1,6 +1,6 @@
 use Rattle.std.proofs.Common.{◌∙◌, sym}
-use Rattle.face_text.proofs.SameFaces.{same_face_is}
+use Rattle.face_text.proofs.SameFaces.{code_eq_is}
 use Rattle.face_text.proofs.change_lines.is_same_face.Goals as goal
 
 pub returns : goal.returns
-returns c same = same_face_is c.args.before.now c.args.after.now (sym c.show_same.ensures ∙ same)
+returns c same = code_eq_is c.args.before.now c.args.after.now (sym c.eq.ensures ∙ same)

@@ -8,9 +8,9 @@ use Rattle.cause_effect.proofs.Marking.{lowest_cleared, lowest_less}
 use Rattle.cause_effect.proofs.Passing.{all_left_first, carried_to, evaluated_to, free_to, left_after, lowest, none_left_over}
 use Rattle.cause_effect.proofs.plan.Plan.solve_changed.Goals as goal
 
-pub returns-then-is_same-clause-steps : goal.returns-then-is_same-clause-steps
-returns-then-is_same-clause-steps g c site is =
-    rose_by_none site c.args.before.now c.args.after.now c.args.steps.now (equal_facts c.args.before.now c.args.after.now (c.is_same.ensures.0 c.if-is_same.true))
+pub returns-then-eq-clause-steps : goal.returns-then-eq-clause-steps
+returns-then-eq-clause-steps g c site is =
+    rose_by_none site c.args.before.now c.args.after.now c.args.steps.now (equal_facts c.args.before.now c.args.after.now c.if-eq.ensures)
 
 pub loop-number-init : goal.loop-number-init
 loop-number-init g c = record {
