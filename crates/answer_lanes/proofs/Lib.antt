@@ -7,5 +7,6 @@ pub mod FindingRuns
 -- taking from a lane: the runs in its room, item by item, whole runs from its front, or all that lies in it
 pub mod Queues
 pub mod Moving
+pub mod Passing
 pub mod WholeRuns
 pub mod AllRuns

@@ -39,13 +39,13 @@ eight_bits bytes first low high byte is_low is_high below is k small =
     (cases_lt (rest + k) 8))
 
 -- bytes that are all the same, of which each bit is set or none
-pub has_first : (count byte : ℕ) (all : Bool) (places : PlaceSet) → places.bytes.items ≡ replicate (count / 8 + 1) byte
+pub has_first : (count byte : ℕ) (all : Bool) (places : PlaceSet) → places.bytes.items ≡ replicate (count / 8 + 2) byte
     → ((k : ℕ) → k < 8 → has_bit byte k ≡ all) → HasFirst count all places
 has_first count byte all places is bits = record {
-  room = let size = ap length is ∙ length-replicate (count / 8 + 1) byte in omega (arith, size);
+  room = let size = ap length is ∙ length-replicate (count / 8 + 2) byte in omega (arith, size);
   is = λ place small.
       ap (λ n. has_bit n (place % 8))
-      (ap (λ xs. slice_index xs (place / 8)) is ∙ get_or-replicate (count / 8 + 1) (place / 8) byte 0 (omega (arith, small)))
+      (ap (λ xs. slice_index xs (place / 8)) is ∙ get_or-replicate (count / 8 + 2) (place / 8) byte 0 (omega (arith, small)))
       ∙ bits (place % 8) (omega arith);
 }
 

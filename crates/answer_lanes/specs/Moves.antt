@@ -1,5 +1,6 @@
 -- How items are moved out of a lane.
 use Rattle.std.specs.Prelude.{◌≡◌, ◌≤◌, ℕ, List, All, drop, length, take}
+use Rattle.tick_units.specs.Lane.{LaneState, turn_count}
 use Rattle.answer_lanes.specs.Runs.{HoldsItems, all_items}
 use Rattle.answer_lanes.specs.declared.run.Run.{Run}
 
@@ -21,3 +22,13 @@ module _ {S T : Type 0} (item_at : S → ℕ → T) where
     pub within : count ≤ length runs
     pub hold : items ≡ length (all_items item_at (take count runs))
     pub few : items ≤ most
+
+  -- so many items were taken out of the runs, and the others are left
+  pub record PassesItems (count : ℕ) (runs left : List (Run S)) : Type 0 where
+    pub behind_them : all_items item_at left ≡ drop count (all_items item_at runs)
+    pub left_held : All HoldsItems left
+
+  -- the runs hold what a turn moves out of a lane
+  pub record AreOfTurn (lane : LaneState T) (runs : List (Run S)) : Type 0 where
+    pub moved : all_items item_at runs ≡ take (turn_count lane) lane.items
+    pub held : All HoldsItems runs

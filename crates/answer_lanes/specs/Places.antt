@@ -1,5 +1,5 @@
 -- Sets of places.
-use Rattle.std.specs.Prelude.{◌≡◌, ◌≢◌, ◌+◌, ◌*◌, ◌/◌, ◌%◌, ◌<◌, ◌≤◌, ℕ, Bool, false, length, slice_index}
+use Rattle.std.specs.Prelude.{◌≡◌, ◌≢◌, ◌+◌, ◌*◌, ◌/◌, ◌%◌, ◌<◌, ℕ, Bool, false, length, slice_index}
 use Rattle.site_types.specs.Bits.{has_bit}
 use Rattle.answer_lanes.specs.declared.place_set.PlaceSet.{PlaceSet}
 
@@ -7,9 +7,13 @@ use Rattle.answer_lanes.specs.declared.place_set.PlaceSet.{PlaceSet}
 abbrev pub has_place : PlaceSet → ℕ → Bool
 has_place set place = has_bit (slice_index set.bytes.items (place / 8)) (place % 8)
 
+-- a place lies so far before the end of a set that the eight places from it on are places of the set
+abbrev pub IsWithin : ℕ → PlaceSet → Type 0
+IsWithin place set = place + 8 < 8 * length set.bytes.items
+
 -- a set has all of the first places, or none of them
 pub record HasFirst (count : ℕ) (all : Bool) (set : PlaceSet) : Type 0 where
-  pub room : count ≤ 8 * length set.bytes.items
+  pub room : count + 8 < 8 * length set.bytes.items
   pub is : (place : ℕ) → place < count → has_place set place ≡ all
 
 -- one place was put into a set or taken out

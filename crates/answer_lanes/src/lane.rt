@@ -1,4 +1,4 @@
-ghost use Rattle.std.specs.Prelude.{◌≡◌, ◌+◌, ◌++◌, ◌≤◌, [], ◌∷◌, All, IfOk, length, nat_le, take, drop};
+ghost use Rattle.std.specs.Prelude.{◌≡◌, ◌+◌, ◌++◌, ◌≤◌, [], ◌∷◌, All, IfOk, IfSome, length, take, drop};
 ghost use Rattle.tick_units.specs.Lane.{HasRoom, after_turn, empty_lane, turn_count, with_put};
 ghost use Rattle.answer_lanes.specs.Runs.{HoldsItems, HasShortCount, all_items, items_of};
 
@@ -44,6 +44,8 @@ impl<S: Several> Model for Lane<S> {
 }
 
 impl<S: Several> Lane<S> {
+    ghost use Rattle.answer_lanes.specs.Moves.{AreOfTurn};
+
     /// An empty lane. This takes the memory for all that it may ever hold.
     pub fn new(alloc: Global, quota: usize, capacity: usize) -> Result<Lane<S>, NoMemory>
         ensures { IfOk result (λ l. l ≡ empty_lane quota capacity) }
@@ -93,28 +95,34 @@ impl<S: Several> Lane<S> {
         move_runs(&mut self.runs, into, count as u8);
     }
 
-    /// Whether a turn moves all that lies in the lane.
-    pub fn fits_turn(&self) -> bool
-        ensures { result ≡ nat_le (length self.now.items) self.now.quota }
+    /// The runs that a turn moves, the oldest first, where it parts none of them.
+    pub fn turn_runs(&self) -> Option<&[Run<S>]>
+        requires few { self.now.quota ≤ 32 }
+        ensures { IfSome result (λ runs. AreOfTurn S.item_at self.now runs.now) }
     {
-        self.len() <= self.quota
+        let runs = self.runs.as_slice();
+        if self.len() <= self.quota {
+            return Some(runs);
+        }
+        let whole = whole_runs(runs, self.quota as u8);
+        if (whole.items as usize) < self.quota {
+            return None;
+        }
+        Some(&runs[..whole.runs])
     }
 
-    /// The runs that lie in the lane, the oldest first.
-    pub fn runs(&self) -> &[Run<S>]
-        ensures items { all_items S.item_at result.now ≡ self.now.items }
-        ensures held { All HoldsItems result.now }
-    {
-        self.runs.as_slice()
-    }
-
-    /// Takes all that lies in the lane out of it, in a turn that looked at its runs.
-    pub fn take_all(&mut self)
-        requires { length self.old.items ≤ self.old.quota }
+    /// Takes out of the lane what a turn moves, in a turn that looked at its runs.
+    pub fn pass_turn(&mut self)
+        requires few { self.old.quota ≤ 32 }
         ensures { self.new ≡ after_turn self.old }
     {
-        self.taken = self.put;
-        self.runs.clear();
+        if self.len() <= self.quota {
+            self.taken = self.put;
+            self.runs.clear();
+            return;
+        }
+        self.taken += self.quota as u64;
+        pass_items(&mut self.runs, self.quota as u8);
     }
 
     /// How many items lie in the lane.
@@ -141,7 +149,7 @@ impl<S: Several> Lane<S> {
 }
 
 ghost use Rattle.std.specs.Prelude.{◌<◌, Some, slice_get};
-ghost use Rattle.answer_lanes.specs.Moves.{AreWhole, MayMove, MovesItems};
+ghost use Rattle.answer_lanes.specs.Moves.{AreWhole, MayMove, MovesItems, PassesItems};
 ghost use Rattle.answer_lanes.specs.Queues.{HasSameRoom, queued};
 ghost use Rattle.answer_lanes.specs.Runs.{rest_of};
 
@@ -163,6 +171,26 @@ fn move_runs<S: Several>(runs: &mut RunQueue<S>, into: &mut ArrayVec<Run<S>, 32>
         left -= front.count;
         let _room = into.try_push(front);
         cut_first(runs, &run, front.count);
+    }
+}
+
+// Takes the first items of the runs of a lane out of it. The last run that is taken may be parted.
+fn pass_items<S: Several>(runs: &mut RunQueue<S>, count: u8)
+    requires few { count ≤ 32 }
+    requires may { MayMove S.item_at count (queued runs.old) }
+    ensures passed { PassesItems S.item_at count (queued runs.old) (queued runs.new) }
+    ensures room { HasSameRoom runs.old runs.new }
+{
+    let whole = whole_runs(runs.as_slice(), count);
+    runs.take(whole.runs);
+    let mut left = count - whole.items;
+    while left > 0 {
+        let Some(run) = runs.first() else {
+            return;
+        };
+        let taken = run.count.min(left);
+        left -= taken;
+        cut_first(runs, &run, taken);
     }
 }
 

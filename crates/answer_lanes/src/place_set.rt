@@ -12,14 +12,14 @@ pub struct PlaceSet {
 }
 
 impl PlaceSet {
-    ghost use Rattle.answer_lanes.specs.Places.{AreEight, HasFirst, IsCleared, SetsPlace};
+    ghost use Rattle.answer_lanes.specs.Places.{AreEight, HasFirst, IsCleared, IsWithin, SetsPlace};
 
     /// A set that has all of the first places, so many, or none of them.
     pub fn first(alloc: Global, count: usize, all: bool) -> Result<PlaceSet, NoMemory>
         ensures { IfOk result (λ set. HasFirst count all set) }
     {
         let byte = if all { u8::MAX } else { 0 };
-        let bytes = vec![in alloc; byte; count / 8 + 1]?;
+        let bytes = vec![in alloc; byte; count / 8 + 2]?;
         Ok(PlaceSet { bytes })
     }
 
@@ -39,6 +39,15 @@ impl PlaceSet {
         for number in 0..self.bytes.len() {
             self.bytes[number] = 0;
         }
+    }
+
+    /// Which of the eight places from one on it has, a bit for each, where that one is a place of the set's.
+    pub fn eight_within(&self, first: usize) -> u8
+        requires { IsWithin first self.now }
+        ensures { AreEight self.now first result }
+    {
+        let byte = first / 8;
+        eight_of(self.bytes[byte], self.bytes[byte + 1], first)
     }
 
     /// Which of the eight places from one on it has, a bit for each.
