@@ -1,4 +1,4 @@
-ghost use Rattle.std.specs.Prelude.{◌≡◌, ◌<◌, ◌≤◌, ◌^◌, [], ℕ, List, All, IfOk, length};
+ghost use Rattle.std.specs.Prelude.{◌≡◌, ◌<◌, ◌≤◌, ◌^◌, [], ℕ, List, All, IfOk};
 ghost use Rattle.tick_units.specs.Lane.{after_turn};
 ghost use Rattle.site_types.specs.Valid.{IsValid};
 ghost use Rattle.answer_lanes.specs.Points.{finding_at};
@@ -142,23 +142,12 @@ impl Hold {
         if findings.len() == 0 {
             return;
         }
-        if findings.fits_turn() {
-            self.take_all(findings);
+        if let Some(runs) = findings.turn_runs() {
+            take_runs(&mut self.points, &mut self.zones, runs);
+            findings.pass_turn();
         } else {
             self.take_first(findings);
         }
-    }
-
-    // Takes all findings, where a turn moves all, from where they lie.
-    fn take_all(&mut self, findings: &mut Lane<FindingGroup>)
-        requires { length findings.old.items ≤ findings.old.quota }
-        ensures watches { WatchesMore self.old (moved_from findings.old) self.new }
-        ensures settled { StaysSettled self.old self.new }
-        ensures kept { TakesFindings self.old self.new }
-        ensures lane { findings.new ≡ after_turn findings.old }
-    {
-        take_runs(&mut self.points, &mut self.zones, findings.runs());
-        findings.take_all();
     }
 
     // Takes the first findings, as many as a turn moves.

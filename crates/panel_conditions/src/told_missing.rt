@@ -19,14 +19,14 @@ pub struct ToldMissing {
 }
 
 impl Model for ToldMissing {
-    ghost use Rattle.std.specs.Prelude.{◌≤◌, ◌*◌, Bool, List, length};
+    ghost use Rattle.std.specs.Prelude.{◌≤◌, ◌<◌, ◌+◌, ◌*◌, Bool, List, length};
     ghost use Rattle.panel_conditions.specs.Told.{are_places};
 
     ghost Value = { List Bool };
 
     ghost view = { λ t. are_places t.missing t.count };
 
-    ghost invariant = { λ t. (t.count ≤ 65536) × (t.count ≤ 8 * length t.missing.bytes.items) };
+    ghost invariant = { λ t. (t.count ≤ 65536) × (t.count + 8 < 8 * length t.missing.bytes.items) };
 }
 
 impl ToldMissing {
@@ -45,7 +45,7 @@ impl ToldMissing {
     pub fn has(&self, place: usize, missing: bool) -> bool
         ensures { result ≡ true → slice_get self.now place ≡ Some missing }
     {
-        place < self.count && has_bit_8(self.missing.eight_from(place), 0) == missing
+        place < self.count && has_bit_8(self.missing.eight_within(place), 0) == missing
     }
 
     /// Whether the last finding of each point of a run told it missing, or not, as the run does.
@@ -58,7 +58,7 @@ impl ToldMissing {
         if end > 8 || first + end as usize > self.count {
             return false;
         }
-        let others = self.missing.eight_from(first) ^ run.first.missing;
+        let others = self.missing.eight_within(first) ^ run.first.missing;
         others == 0 || next_bit(others as u32, run.taken) >= end
     }
 

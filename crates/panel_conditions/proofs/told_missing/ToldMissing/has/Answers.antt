@@ -9,5 +9,5 @@ returns-then-place-self c same =
     let place = c.args.place in
     let here : place + 0 ≡ place = omega arith in
     ap (λ l. slice_get l place) (sym c.self.view_is) ∙ place_at set c.self.inside.count place c.if-place-self.true
-    ∙ ap Some (sym (c.has_bit_8.ensures ∙ c.eight_from.ensures 0 (omega arith) ∙ ap (has_place set) here)
+    ∙ ap Some (sym (c.has_bit_8.ensures ∙ c.eight_within.ensures 0 (omega arith) ∙ ap (has_place set) here)
     ∙ truth c.has_bit_8.result c.args.missing same)
