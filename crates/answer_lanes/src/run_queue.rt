@@ -45,7 +45,11 @@ impl<S: Copy> RunQueue<S> {
         ensures room { HasSameRoom self.old self.new }
     {
         self.make_room();
-        self.room[self.end] = *run;
+        // Field by field, since a copy of the whole takes the unused bytes behind its fields along.
+        let place = &mut self.room[self.end];
+        place.first = run.first;
+        place.taken = run.taken;
+        place.count = run.count;
         self.end += 1;
     }
 
