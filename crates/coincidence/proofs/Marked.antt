@@ -1,5 +1,5 @@
 -- The set of the points whose alarms go on is right after what changes it, and after what it tells of changes.
-use Rattle.std.proofs.Common.{◌≡◌, ◌≢◌, ◌⊎◌, inl, inr, ⊎_elim, ℕ, ◌*◌, ◌<◌, ◌≤◌, ◌==◌, ◌||◌, Bool, true, false}
+use Rattle.std.proofs.Common.{◌≡◌, ◌+◌, ◌≢◌, ◌⊎◌, inl, inr, ⊎_elim, ℕ, ◌*◌, ◌<◌, ◌≤◌, ◌==◌, ◌||◌, Bool, true, false}
 use Rattle.std.proofs.Common.{if◌then◌else◌, List, Some, length, length-set, max, set, slice_get, sym, ◌∙◌, ap}
 use Rattle.std.proofs.Common.{subst, arith}
 use Rattle.std.proofs.lemmas.Bool.Decides.{eqb_tells}
@@ -37,7 +37,7 @@ later_on since later reset point zone le g = record {
 }
 
 module _ {since : ℕ} {reset : LastDone} {points : List PointWatch} {zones : List ZoneWatch} where
-  pub none_going : (places : PlaceSet) → length points ≤ 8 * length places.bytes.items → HasNone places → HasGoingOn places since reset points zones
+  pub none_going : (places : PlaceSet) → length points + 8 < 8 * length places.bytes.items → HasNone places → HasGoingOn places since reset points zones
   none_going places room none = record { room = room; all = λ place point zone has there zone_there. absurd (let no' = none place in cc) }
 
   pub cleared_going : {old : PlaceSet} (next : PlaceSet) → HasGoingOn old since reset points zones → IsCleared old next

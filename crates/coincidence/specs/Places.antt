@@ -15,7 +15,7 @@ use Rattle.coincidence.specs.Parts.{StaysNoted, switch_at}
 
 -- a set has the places of those points of which a test holds
 pub record HasPointsWhere (test : PointWatch → Bool) (watches : List PointWatch) (set : PlaceSet) : Type 0 where
-  pub room : length watches ≤ 8 * length set.bytes.items
+  pub room : length watches + 8 < 8 * length set.bytes.items
   pub is : (place : ℕ) (watch : PointWatch) → slice_get watches place ≡ Some watch → has_place set place ≡ test watch
 
 -- the bits of a byte tell of which of eight points, from the first one on, a test holds
@@ -37,6 +37,6 @@ pub record GoesOnFrom (since : ℕ) (reset : LastDone) (point : PointWatch) (zon
 -- counts and leaves what is kept of the detector as it is
 pub record HasGoingOn (set : PlaceSet) (since : ℕ) (reset : LastDone) (points : List PointWatch)
     (zones : List ZoneWatch) : Type 0 where
-  pub room : length points ≤ 8 * length set.bytes.items
+  pub room : length points + 8 < 8 * length set.bytes.items
   pub all : (place : ℕ) (point : PointWatch) (zone : ZoneWatch) → has_place set place ≡ true
       → slice_get points place ≡ Some point → slice_get zones point.zone ≡ Some zone → GoesOnFrom since reset point zone

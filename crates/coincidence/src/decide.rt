@@ -81,9 +81,9 @@ impl Decide {
         if answers.len() == 0 {
             return;
         }
-        if answers.fits_turn() {
-            self.take_runs(answers.runs(), findings);
-            answers.take_all();
+        if let Some(runs) = answers.turn_runs() {
+            self.take_runs(runs, findings);
+            answers.pass_turn();
             return;
         }
         let mut batch = ArrayVec::new();

@@ -1,6 +1,6 @@
-use Rattle.std.proofs.Common.{◌≡◌, ◌≤◌, ◌++◌, [], true, append-nil, length, min, nat_le, refl, sym, ◌∙◌, ap, subst, arith}
-use Rattle.std.proofs.lemmas.Bool.Decides.{nat_tests}
-use Rattle.std.proofs.lemmas.List.{take_all}
+use Rattle.std.proofs.Common.{◌≡◌, ◌++◌, [], List, append-nil, refl, sym, ◌∙◌, ap, subst}
+use Rattle.tick_units.specs.Lane.{LaneState}
+use Rattle.site_types.specs.declared.answer.Answer.{Answer}
 use Rattle.answer_lanes.specs.Points.{answer_at}
 use Rattle.answer_lanes.specs.Runs.{all_items}
 use Rattle.coincidence.specs.Changes.{PutsFindings, TakesAnswers}
@@ -8,44 +8,32 @@ use Rattle.coincidence.specs.Stands.{taken_by}
 use Rattle.coincidence.proofs.Turned.{can_next, puts_none, room_next, takes_none}
 use Rattle.coincidence.proofs.RunItems.{few_taken}
 use Rattle.coincidence.proofs.decide.Decide.turn.Goals as goal
-use Rattle.coincidence.proofs.decide.Decide.turn.Goals.{After-runs}
 
--- where a turn takes all, it takes the answers of the runs that lie in the lane
-takes_all : (c : After-runs) → taken_by c.args.answers.now ≡ all_items answer_at c.runs.result.now
-takes_all c =
-    let lane = c.args.answers.now in
-    let test : nat_le (length lane.items) lane.quota ≡ true = sym c.fits_turn.ensures ∙ c.if-fits_turn.true in
-    let fits : length lane.items ≤ lane.quota = grind (arith, nat_tests, test) in
-    take_all (min lane.quota (length lane.items)) lane.items (omega (arith, fits)) ∙ sym c.runs.ensures.items
-
-nothing_more : (c : After-runs) → taken_by c.args.answers.now ≡ all_items answer_at c.runs.result.now ++ []
-nothing_more c = takes_all c ∙ sym (append-nil (all_items answer_at c.runs.result.now))
+-- where a turn parts no run, it takes the answers of runs that lie in the lane
+nothing_more : (lane : LaneState Answer) (items : List Answer) → items ≡ taken_by lane → taken_by lane ≡ items ++ []
+nothing_more lane items is = sym is ∙ sym (append-nil items)
 
 pub take_runs-requires-clause-room : goal.take_runs-requires-clause-room
 take_runs-requires-clause-room c =
-    let here = (goal.at.take_runs-requires-clause-room c).After-runs in
     let self = c.args.self.now in
     let lane = c.args.findings.now in
-    let items = all_items answer_at c.runs.result.now in
-    room_next self self _ [] items items [] refl (nothing_more here) lane lane 32 c.requires.may (puts_none self lane)
-    c.requires.room (few_taken c.args.answers.now _ refl c.requires.quota)
+    let items = all_items answer_at c.in-Some.runs.now in
+    room_next self self _ [] items items [] refl (nothing_more c.args.answers.now items c.in-Some.ensures.moved) lane lane 32 c.requires.may
+    (puts_none self lane) c.requires.room (few_taken c.args.answers.now _ refl c.requires.quota)
 
 pub take_runs-requires-clause-may : goal.take_runs-requires-clause-may
 take_runs-requires-clause-may c =
-    let here = (goal.at.take_runs-requires-clause-may c).After-runs in
     let self = c.args.self.now in
-    let items = all_items answer_at c.runs.result.now in
-    can_next self self _ [] items items [] refl (nothing_more here) c.requires.may (takes_none self)
+    let items = all_items answer_at c.in-Some.runs.now in
+    can_next self self _ [] items items [] refl (nothing_more c.args.answers.now items c.in-Some.ensures.moved) c.requires.may (takes_none self)
 
-pub returns-then-fits_turn-clause-taken : goal.returns-then-fits_turn-clause-taken
-returns-then-fits_turn-clause-taken c =
-    let here = (goal.at.returns-then-fits_turn-clause-taken c).After-runs in
-    subst (λ xs. TakesAnswers c.args.self.now xs c.take_runs.new.self) (sym (takes_all here)) c.take_runs.ensures.taken
+pub returns-in-Some-clause-taken : goal.returns-in-Some-clause-taken
+returns-in-Some-clause-taken c =
+    subst (λ xs. TakesAnswers c.args.self.now xs c.take_runs.new.self) c.in-Some.ensures.moved c.take_runs.ensures.taken
 
-pub returns-then-fits_turn-clause-findings : goal.returns-then-fits_turn-clause-findings
-returns-then-fits_turn-clause-findings c =
-    let here = (goal.at.returns-then-fits_turn-clause-findings c).After-runs in
-    subst (λ xs. PutsFindings c.args.self.now xs c.args.findings.now c.take_runs.new.findings) (sym (takes_all here)) c.take_runs.ensures.findings
+pub returns-in-Some-clause-findings : goal.returns-in-Some-clause-findings
+returns-in-Some-clause-findings c =
+    subst (λ xs. PutsFindings c.args.self.now xs c.args.findings.now c.take_runs.new.findings) c.in-Some.ensures.moved c.take_runs.ensures.findings
 
 -- else it takes those that it moved out of the lane
 pub returns-clause-taken : goal.returns-clause-taken
