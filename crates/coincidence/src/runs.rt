@@ -1,11 +1,11 @@
 //! What a run of answers changes, and what it means.
 
-ghost use Rattle.std.specs.Prelude.{◌≡◌, All, false, length, true};
+ghost use Rattle.std.specs.Prelude.{◌≡◌, ◌≤◌, All, false, length, true};
 ghost use Rattle.tick_units.specs.Lane.{HasRoom};
 ghost use Rattle.answer_lanes.specs.Points.{answer_at};
 ghost use Rattle.answer_lanes.specs.Runs.{HasShortCount, HoldsItems, all_items};
 
-use crate::bits::{first_bits, lowest_bit};
+use crate::bits::{bits_from, first_bits, lowest_bit};
 use crate::decide::Decide;
 use crate::gathering::{gather, gather_at};
 use crate::rules::plain_group;
@@ -15,7 +15,7 @@ use site_types::with_bit_8;
 impl Decide {
     ghost use Rattle.coincidence.specs.Changes.{CanTakeAnswerRun, CanTakeRuns, PutsFindings, TakesAnswers};
     ghost use Rattle.coincidence.specs.Changes.{TakesAnswerRun, TakesFirstRuns};
-    ghost use Rattle.coincidence.specs.Resting.{IsWithinEight, TellsChanging};
+    ghost use Rattle.coincidence.specs.Resting.{AreStill, IsWithinEight, TellsChanging};
     ghost use Rattle.coincidence.specs.Stands.{CanTake};
 
     // Takes the answers of runs, one run after the other, and puts one finding for each.
@@ -146,11 +146,22 @@ impl Decide {
         requires { IsWithinEight run.now }
         ensures { TellsChanging self.now run.now result }
     {
-        let first = run.first.point as usize + run.taken as usize;
+        let still = self.still_bits(&run.first);
+        first_bits(run.count) & !bits_from(still, run.taken)
+    }
+
+    // Which of the first eight answers of a group leave what is kept of their points as it is, a bit for each. Where
+    // none is silent it need not be read which points stay missing.
+    fn still_bits(&self, answers: &AnswerGroup) -> u8
+        requires { answers.now.point ≤ 65527 }
+        ensures { AreStill self.now answers.now result }
+    {
+        let first = answers.point as usize;
         let resting = self.points.resting_from(first);
-        let missing = self.points.missing_from(first);
-        let still = run.first.matching_bits(run.taken, resting, missing);
-        first_bits(run.count) & !still
+        if answers.silents == 0 {
+            return resting & !answers.alarms_from(0);
+        }
+        answers.matching_bits(0, resting, self.points.missing_from(first))
     }
 }
 
