@@ -8,6 +8,7 @@ pub mod ConfirmedZones
 pub mod Masked
 pub mod FindingIs
 pub mod TakenAnswer
+pub mod TakenRuns
 pub mod Marked
 pub mod PlainAlarms
 pub mod PlainZones

@@ -1,6 +1,6 @@
 -- Answers that leave what is kept of their points leave all that is kept as it is.
-use Rattle.std.proofs.Common.{◌≡◌, ◌⊎◌, ◌^◌, ◌&&◌, inl, inr, nat_lt, not, ℕ, ◌+◌, ◌≤◌, ◌<◌, ◌==◌, Bool, true, false, nat_le, refl, sym, ◌∙◌, ap, arith}
-use Rattle.std.proofs.Common.{List, min, [], ◌∷◌, ◌++◌, get_or, slice_get, set, Option, Some, None}
+use Rattle.std.proofs.Common.{◌≡◌, ◌⊎◌, ◌^◌, ◌&&◌, inl, inr, nat_lt, not, ℕ, ◌+◌, ◌≤◌, ◌<◌, ◌==◌, Bool, if◌then◌else◌, true, false, nat_le, refl, sym, ◌∙◌, ap, subst, arith}
+use Rattle.std.proofs.Common.{List, [], ◌∷◌, ◌++◌, get_or, slice_get, set, Option, Some, None}
 use Rattle.std.specs.Option.{is_none}
 use Rattle.std.proofs.lemmas.Bool.{eqb-true}
 use Rattle.std.proofs.lemmas.List.{set-get_or}
@@ -15,6 +15,7 @@ use Rattle.site_types.specs.declared.heard.Heard.{Heard}
 use Rattle.site_types.specs.declared.heard.Heard.TheVariants.{Quiet, Alarm, Silent}
 use Rattle.site_types.specs.declared.retained.Retained.{Retained}
 use Rattle.site_types.specs.Bits.{has_bit}
+use Rattle.site_types.proofs.Masks.{has_bit-zero}
 use Rattle.site_types.specs.Done.{Done}
 use Rattle.site_types.specs.Profile.{missing_askings}
 use Rattle.coincidence_rules.proofs.Lists.{and_both}
@@ -23,7 +24,7 @@ use Rattle.coincidence_rules.specs.Findings.{finding_of}
 use Rattle.answer_lanes.specs.declared.run.Run.{Run}
 use Rattle.answer_lanes.specs.declared.answer_group.AnswerGroup.{AnswerGroup}
 use Rattle.answer_lanes.specs.Groups.{AreMatching, IsMatching}
-use Rattle.answer_lanes.specs.Points.{answer_at, mask_if}
+use Rattle.answer_lanes.specs.Points.{answer_at, heard_at, mask_if}
 use Rattle.coincidence.specs.declared.decide.Decide.{Decide}
 use Rattle.coincidence.specs.declared.point_watch.PointWatch.{PointWatch}
 use Rattle.coincidence.specs.Changes.{FindsNext, TakesAnswers}
@@ -31,7 +32,7 @@ use Rattle.coincidence.specs.GoingOn.{telling_of}
 use Rattle.coincidence.specs.Parts.{is_at_rest, leaves_watch, point_noted, silent_then, stays_missing}
 use Rattle.coincidence.specs.Places.{TellsEight}
 use Rattle.coincidence.specs.Premises.{MayTake}
-use Rattle.coincidence.specs.Resting.{IsWithinEight, LeavesPoint, TellsChanging, plain_of}
+use Rattle.coincidence.specs.Resting.{AreStill, IsWithinEight, LeavesPoint, TellsChanging, plain_of}
 use Rattle.coincidence.specs.Stands.{DecidesFor}
 use Rattle.coincidence.proofs.Observations.{fits_last}
 use Rattle.coincidence.proofs.FindingIs.{finding_by, quiet_is}
@@ -104,32 +105,46 @@ left_if decide answer quiet silent rests missing (inl is) watch there =
 left_if decide answer quiet silent rests missing (inr is) watch there =
     ap (λ h. leaves_watch h watch) is.0 ∙ sym (missing watch there) ∙ is.1
 
--- the answers of a run whose bits tell that their points are left as they are leave them
-left_in_run : (decide : Decide) (run : Run AnswerGroup) (from resting missing bits : ℕ) → from ≡ run.first.point + run.taken → IsWithinEight run
-    → TellsEight is_at_rest decide.points from resting → TellsEight stays_missing decide.points from missing
-    → AreMatching run.first run.taken resting missing bits → (k : ℕ) → k < run.count → has_bit bits k ≡ true
-    → LeavesPoint decide (answer_at run.first (run.taken + k))
-left_in_run decide run from resting missing bits is_from within rests misses match k in_run set_bit =
-    let places = within.places in
-    let points = within.points in
-    let place = run.taken + k in
-    let eight : k < 8 = omega (arith, in_run, places) in
-    let point : (answer_at run.first place).point ≡ from + k = (let here : min (run.first.point + place) 65535 ≡ from + k = omega (arith, is_from, in_run, places, points) in here) in
-    left_if decide (answer_at run.first place) (has_bit resting k) (has_bit missing k)
-    (λ watch there. rests k watch eight (ap (slice_get decide.points) (sym point) ∙ there))
-    (λ watch there. misses k watch eight (ap (slice_get decide.points) (sym point) ∙ there)) (match.set k eight set_bit)
+-- the answers of a group whose bits tell that their points are left as they are leave them
+module _ (decide : Decide) (answers : AnswerGroup) (points : answers.point ≤ 65527) where
+  point_is : (k : ℕ) → k < 8 → (answer_at answers k).point ≡ answers.point + k
+  point_is k eight = omega (arith, eight, points)
 
--- the others may change them
-pub changing_in_run : (decide : Decide) (run : Run AnswerGroup) (from resting missing still front changing : ℕ) → from ≡ run.first.point + run.taken
-    → IsWithinEight run → TellsEight is_at_rest decide.points from resting → TellsEight stays_missing decide.points from missing
-    → AreMatching run.first run.taken resting missing still → ((k : ℕ) → has_bit front k ≡ nat_lt k run.count)
-    → ((k : ℕ) → k < 8 → has_bit changing k ≡ (has_bit front k && not (has_bit still k))) → changing < 2 ^ 8 → TellsChanging decide run changing
-changing_in_run decide run from resting missing still front changing is_from within rests misses match fronts parts fits = record {
-  within = λ k set_bit. in_front k (lt_tells k run.count) (and_both (has_bit front k) (not (has_bit still k)) (sym (parts k (set_below changing k fits set_bit)) ∙ set_bit)).0;
+  pub still_matching : (resting missing bits : ℕ) → TellsEight is_at_rest decide.points answers.point resting
+      → TellsEight stays_missing decide.points answers.point missing → AreMatching answers 0 resting missing bits → AreStill decide answers bits
+  still_matching resting missing bits rests misses match k eight set_bit =
+      let here : 0 + k ≡ k = omega arith in
+      left_if decide (answer_at answers k) (has_bit resting k) (has_bit missing k)
+      (λ watch there. rests k watch eight (ap (slice_get decide.points) (sym (point_is k eight)) ∙ there))
+      (λ watch there. misses k watch eight (ap (slice_get decide.points) (sym (point_is k eight)) ∙ there))
+      (subst (λ n. IsMatching (heard_at answers.alarms answers.silents n) (has_bit resting k) (has_bit missing k)) here (match.set k eight set_bit))
+
+  -- where none is silent those that are no alarms are quiet
+  pub still_quiet : (resting alarms bits : ℕ) → TellsEight is_at_rest decide.points answers.point resting → answers.silents ≡ 0
+      → ((k : ℕ) → k < 8 → has_bit alarms k ≡ has_bit answers.alarms (0 + k))
+      → ((k : ℕ) → k < 8 → has_bit bits k ≡ (has_bit resting k && not (has_bit alarms k))) → AreStill decide answers bits
+  still_quiet resting alarms bits rests none same_bits parts k eight set_bit watch there =
+      let here : 0 + k ≡ k = omega arith in
+      let both = and_both (has_bit resting k) (not (has_bit alarms k)) (sym (parts k eight) ∙ set_bit) in
+      let no_alarm = sym (ap not (same_bits k eight ∙ ap (has_bit answers.alarms) here)) ∙ both.1 in
+      ap (λ h. leaves_watch h watch) (quiet (has_bit answers.alarms k) (has_bit answers.silents k) no_alarm (ap (λ m. has_bit m k) none ∙ has_bit-zero k))
+      ∙ sym (rests k watch eight (ap (slice_get decide.points) (sym (point_is k eight)) ∙ there)) ∙ both.0
+    where
+      quiet : (alarm silent : Bool) → not alarm ≡ true → silent ≡ false → (if alarm then Alarm else if silent then Silent else Quiet) ≡ Quiet
+      quiet true silent e f = absurd (cc)
+      quiet false true e f = absurd (cc)
+      quiet false false e f = refl
+
+-- of a run the others may change them
+pub changing_in_run : (decide : Decide) (run : Run AnswerGroup) (still behind front changing : ℕ) → IsWithinEight run → AreStill decide run.first still
+    → ((k : ℕ) → has_bit behind k ≡ has_bit still (run.taken + k)) → ((k : ℕ) → has_bit front k ≡ nat_lt k run.count)
+    → ((k : ℕ) → k < 8 → has_bit changing k ≡ (has_bit front k && not (has_bit behind k))) → changing < 2 ^ 8 → TellsChanging decide run changing
+changing_in_run decide run still behind front changing within stills moved fronts parts fits = record {
+  within = λ k set_bit. in_front k (lt_tells k run.count) (and_both (has_bit front k) (not (has_bit behind k)) (sym (parts k (set_below changing k fits set_bit)) ∙ set_bit)).0;
   left = λ k in_run clear.
       let places = within.places in
-      left_in_run decide run from resting missing still is_from within rests misses match k in_run
-      (by (has_bit front k) (has_bit still k) (fronts k ∙ lt_is k run.count in_run) (sym (parts k (omega (arith, in_run, places))) ∙ clear));
+      stills (run.taken + k) (omega (arith, in_run, places))
+      (sym (moved k) ∙ by (has_bit front k) (has_bit behind k) (fronts k ∙ lt_is k run.count in_run) (sym (parts k (omega (arith, in_run, places))) ∙ clear));
 }
   where
     in_front : (k : ℕ) → ((nat_lt k run.count ≡ true) × (k < run.count)) ⊎ ((nat_lt k run.count ≡ false) × (run.count ≤ k)) → has_bit front k ≡ true → k < run.count

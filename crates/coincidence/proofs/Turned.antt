@@ -111,7 +111,7 @@ still_can can follows = record {
 pub can_front : (a : Decide) (xs ys : List Answer) → CanTake a (xs ++ ys) → CanTake a xs
 can_front a xs ys can = still_can can (λ site kept panel done taken. may_front xs ys)
 
-can_behind : (a b : Decide) (xs ys : List Answer) → TakesAnswers a xs b → CanTake a (xs ++ ys) → CanTake b ys
+pub can_behind : (a b : Decide) (xs ys : List Answer) → TakesAnswers a xs b → CanTake a (xs ++ ys) → CanTake b ys
 can_behind a b xs ys takes can = record {
   site = can.site;
   kept = can.kept;

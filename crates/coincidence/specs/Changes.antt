@@ -1,12 +1,13 @@
 -- What taking answers and applying an operation make of the part that decides, whatever it stood for.
-use Rattle.std.specs.Prelude.{◌≡◌, ◌≢◌, ◌<◌, ℕ, Bool, List, [], ◌∷◌, ◌++◌, slice_get, slice_index_or, slice_set}
+use Rattle.std.specs.Prelude.{◌≡◌, ◌≢◌, ◌<◌, ℕ, All, Bool, List, [], ◌∷◌, ◌++◌, length, slice_get, slice_index_or}
+use Rattle.std.specs.Prelude.{slice_set}
 use Rattle.tick_units.specs.declared.tick.Tick.{Tick}
 use Rattle.site_types.specs.declared.heard.Heard.{Heard}
 use Rattle.tick_units.specs.Lane.{HasRoom, LaneState, with_put}
 use Rattle.answer_lanes.specs.declared.answer_group.AnswerGroup.{AnswerGroup}
 use Rattle.answer_lanes.specs.declared.run.Run.{Run}
 use Rattle.answer_lanes.specs.Points.{answer_at}
-use Rattle.answer_lanes.specs.Runs.{HasShortCount, items_of}
+use Rattle.answer_lanes.specs.Runs.{HasShortCount, HoldsItems, all_items, items_of}
 use Rattle.site_types.specs.declared.answer.Answer.{Answer}
 use Rattle.site_types.specs.declared.operation.Operation.{Operation}
 use Rattle.site_types.specs.declared.retained.Retained.{Retained}
@@ -76,6 +77,21 @@ pub record TakesAnswerRun (old : Decide) (run : Run AnswerGroup) (lane : LaneSta
     (findings : LaneState Finding) : Type 0 where
   pub taken : TakesAnswers old (items_of answer_at run) decide
   pub put : PutsFindings old (items_of answer_at run) lane findings
+
+-- the answers of runs may be taken, and there is room for their findings
+pub record CanTakeRuns (decide : Decide) (runs : List (Run AnswerGroup)) (findings : LaneState Finding) : Type 0 where
+  pub held : All HoldsItems runs
+  pub room : HasRoom findings (length (all_items answer_at runs))
+  pub may : CanTake decide (all_items answer_at runs)
+
+-- of some runs some are left; the answers of those in front of them are taken after those before, and one finding for
+-- each is put into the lane
+pub record TakesFirstRuns (old : Decide) (runs left : List (Run AnswerGroup)) (lane : LaneState Finding)
+    (decide : Decide) (findings : LaneState Finding) : Type 0 where
+  pub front : List (Run AnswerGroup)
+  pub parts : runs ≡ front ++ left
+  pub taken : TakesAnswers old (all_items answer_at front) decide
+  pub put : PutsFindings old (all_items answer_at front) lane findings
 
 -- the finding is that of an answer that comes after those taken
 abbrev pub FindsNext : Decide → Answer → Finding → Type 0

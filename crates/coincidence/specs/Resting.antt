@@ -34,6 +34,10 @@ pub record IsWithinEight (run : Run AnswerGroup) : Type 0 where
   pub places : run.taken + run.count ≤ 8
   pub points : run.first.point ≤ 65527
 
+-- the bits of a byte tell which of the first eight answers of a group leave what is kept of their points as it is
+abbrev pub AreStill : Decide → AnswerGroup → ℕ → Type 0
+AreStill decide answers bits = (k : ℕ) → k < 8 → has_bit bits k ≡ true → LeavesPoint decide (answer_at answers k)
+
 -- the bits of a byte tell which answers of a run may change what is kept of their points
 pub record TellsChanging (decide : Decide) (run : Run AnswerGroup) (bits : ℕ) : Type 0 where
   pub within : (k : ℕ) → has_bit bits k ≡ true → k < run.count

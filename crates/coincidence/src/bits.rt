@@ -29,6 +29,14 @@ pub fn first_bits(count: u8) -> u8
     ((1u16 << count) - 1) as u8
 }
 
+/// The bits of a byte from a place on.
+pub fn bits_from(byte: u8, place: u8) -> u8
+    requires { place ≤ 8 }
+    ensures { (k : ℕ) → has_bit result k ≡ has_bit byte (place + k) }
+{
+    ((byte as u16) >> place) as u8
+}
+
 /// The lowest bit of a byte that is set.
 pub fn lowest_bit(byte: u8) -> u8
     requires { 0 < byte }

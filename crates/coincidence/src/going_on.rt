@@ -4,7 +4,7 @@ ghost use Rattle.std.specs.Prelude.{◌≡◌, [], ◌∷◌, ◌<◌, true};
 ghost use Rattle.answer_lanes.specs.Points.{answer_at};
 ghost use Rattle.answer_lanes.specs.Runs.{items_of};
 
-use crate::bits::{lowest_bit, lowest_bit_or, one_bit};
+use crate::bits::{bits_from, lowest_bit, lowest_bit_or, one_bit};
 use crate::decide::Decide;
 use crate::plain_zone::PlainZone;
 use crate::rules::telling_group;
@@ -89,8 +89,8 @@ impl Decide {
         requires { IsWithinEight run.now }
         ensures { AreMarkedAlarms self.now run.now result }
     {
-        let first = run.first.point as usize + run.taken as usize;
-        self.going_on.eight_from(first) & run.first.alarms_from(run.taken)
+        let going = self.going_on.eight_from(run.first.point as usize);
+        bits_from(going & run.first.alarms_from(0), run.taken)
     }
 
     // Of the bits that tell of alarms of a run within a group of eight: those from the first one on whose point isn't

@@ -1,11 +1,11 @@
 //! What a run of answers changes, and what it means.
 
-ghost use Rattle.std.specs.Prelude.{All, length};
+ghost use Rattle.std.specs.Prelude.{◌≡◌, ◌≤◌, All, false, length, true};
 ghost use Rattle.tick_units.specs.Lane.{HasRoom};
 ghost use Rattle.answer_lanes.specs.Points.{answer_at};
-ghost use Rattle.answer_lanes.specs.Runs.{HoldsItems, all_items};
+ghost use Rattle.answer_lanes.specs.Runs.{HasShortCount, HoldsItems, all_items};
 
-use crate::bits::{first_bits, lowest_bit};
+use crate::bits::{bits_from, first_bits, lowest_bit};
 use crate::decide::Decide;
 use crate::gathering::{gather, gather_at};
 use crate::rules::plain_group;
@@ -13,8 +13,9 @@ use answer_lanes::{AnswerGroup, FindingGroup, Lane, Run};
 use site_types::with_bit_8;
 
 impl Decide {
-    ghost use Rattle.coincidence.specs.Changes.{CanTakeAnswerRun, PutsFindings, TakesAnswers, TakesAnswerRun};
-    ghost use Rattle.coincidence.specs.Resting.{IsWithinEight, TellsChanging};
+    ghost use Rattle.coincidence.specs.Changes.{CanTakeAnswerRun, CanTakeRuns, PutsFindings, TakesAnswers};
+    ghost use Rattle.coincidence.specs.Changes.{TakesAnswerRun, TakesFirstRuns};
+    ghost use Rattle.coincidence.specs.Resting.{AreStill, IsWithinEight, TellsChanging};
     ghost use Rattle.coincidence.specs.Stands.{CanTake};
 
     // Takes the answers of runs, one run after the other, and puts one finding for each.
@@ -26,31 +27,44 @@ impl Decide {
         ensures findings { PutsFindings self.old (all_items answer_at runs.now) findings.old
             findings.new }
     {
-        for run in runs {
+        let mut left = self.pass_steady(runs, findings);
+        while let [run, rest @ ..] = left {
             self.take_run(run, findings);
+            left = self.pass_steady(rest, findings);
         }
     }
 
-    // Takes the answers of a run, and puts one finding for each.
-    fn take_run(&mut self, run: &Run<AnswerGroup>, findings: &mut Lane<FindingGroup>)
-        requires { CanTakeAnswerRun self.old run.now findings.old }
-        ensures { TakesAnswerRun self.old run.now findings.old self.new findings.new }
+    // Puts the findings of the first runs, as long as no answer of a run changes anything of what is kept, and answers
+    // the runs behind them. This loop stands apart from the slow ways, so that it need not share registers with them.
+    fn pass_steady<'a>(
+        &self,
+        runs: &'a [Run<AnswerGroup>],
+        findings: &mut Lane<FindingGroup>,
+    ) -> &'a [Run<AnswerGroup>]
+        requires { CanTakeRuns self.now runs.now findings.old }
+        ensures { TakesFirstRuns self.now runs.now result.now findings.old self.now findings.new }
     {
-        if run.taken + run.count <= 8 && run.first.point <= u16::MAX - 8 {
-            self.take_eight(run, findings);
-        } else {
-            self.take_each(run, findings);
+        let mut left = runs;
+        while let [run, rest @ ..] = left {
+            if !self.passes(run, findings) {
+                return left;
+            }
+            left = rest;
         }
+        left
     }
 
-    // Takes the answers of a run within a group of eight: in one step, or one for each zone, where all change nothing
-    // of what is kept.
-    #[inline(always)]
-    fn take_eight(&mut self, run: &Run<AnswerGroup>, findings: &mut Lane<FindingGroup>)
-        requires within { IsWithinEight run.now }
-        requires can { CanTakeAnswerRun self.old run.now findings.old }
-        ensures { TakesAnswerRun self.old run.now findings.old self.new findings.new }
+    // Puts the findings of a run within a group of eight whose answers change nothing of what is kept: in one step, or
+    // one for each zone. Tells whether it is such a run, and leaves any other one as it is.
+    fn passes(&self, run: &Run<AnswerGroup>, findings: &mut Lane<FindingGroup>) -> bool
+        requires { CanTakeAnswerRun self.now run.now findings.old }
+        ensures passed { result ≡ true
+            → TakesAnswerRun self.now run.now findings.old self.now findings.new }
+        ensures other { result ≡ false → findings.new ≡ findings.old }
     {
+        if !is_within_eight(run) {
+            return false;
+        }
         let changing = self.changing_bits(run);
         if changing == 0 {
             findings.put_run(Run {
@@ -58,12 +72,26 @@ impl Decide {
                 taken: run.taken,
                 count: run.count,
             });
-            return;
+            return true;
         }
-        if self.all_go_on(run, changing) {
-            self.tell_going_on(run, changing, findings);
-        } else {
+        if !self.all_go_on(run, changing) {
+            return false;
+        }
+        self.tell_going_on(run, changing, findings);
+        true
+    }
+
+    // Takes the answers of a run one by one, all of them or, within a group of eight, those that may change what is
+    // kept of their points. One finding is put for each answer.
+    fn take_run(&mut self, run: &Run<AnswerGroup>, findings: &mut Lane<FindingGroup>)
+        requires { CanTakeAnswerRun self.old run.now findings.old }
+        ensures { TakesAnswerRun self.old run.now findings.old self.new findings.new }
+    {
+        if is_within_eight(run) {
+            let changing = self.changing_bits(run);
             self.take_changing(run, changing, findings);
+        } else {
+            self.take_each(run, findings);
         }
     }
 
@@ -113,14 +141,36 @@ impl Decide {
     }
 
     // Which of the answers of a run within a group of eight may change what is kept of their points, a bit for each.
+    #[inline(always)]
     fn changing_bits(&self, run: &Run<AnswerGroup>) -> u8
         requires { IsWithinEight run.now }
         ensures { TellsChanging self.now run.now result }
     {
-        let first = run.first.point as usize + run.taken as usize;
-        let resting = self.points.resting_from(first);
-        let missing = self.points.missing_from(first);
-        let still = run.first.matching_bits(run.taken, resting, missing);
-        first_bits(run.count) & !still
+        let still = self.still_bits(&run.first);
+        first_bits(run.count) & !bits_from(still, run.taken)
     }
+
+    // Which of the first eight answers of a group leave what is kept of their points as it is, a bit for each. Where
+    // none is silent it need not be read which points stay missing.
+    fn still_bits(&self, answers: &AnswerGroup) -> u8
+        requires { answers.now.point ≤ 65527 }
+        ensures { AreStill self.now answers.now result }
+    {
+        let first = answers.point as usize;
+        let resting = self.points.resting_from(first);
+        if answers.silents == 0 {
+            return resting & !answers.alarms_from(0);
+        }
+        answers.matching_bits(0, resting, self.points.missing_from(first))
+    }
+}
+
+ghost use Rattle.coincidence.specs.Resting.{IsWithinEight};
+
+// Whether the answers of a run are among the first eight of their group, and of points with different numbers.
+fn is_within_eight(run: &Run<AnswerGroup>) -> bool
+    requires { HasShortCount run.now }
+    ensures { result ≡ true → IsWithinEight run.now }
+{
+    run.taken + run.count <= 8 && run.first.point <= u16::MAX - 8
 }

@@ -1,4 +1,4 @@
-use Rattle.std.proofs.Common.{◌+◌, ◌&&◌, refl, ap, ◌∙◌, arith}
+use Rattle.std.proofs.Common.{◌&&◌, ap, ◌∙◌, arith}
 use Rattle.std.proofs.lemmas.Nat.{and_le_l}
 use Rattle.std.specs.Int.{w8, bit_not}
 use Rattle.site_types.specs.Bits.{has_bit}
@@ -8,10 +8,9 @@ use Rattle.coincidence.proofs.decide.Decide.changing_bits.Goals as goal
 
 pub returns : goal.returns
 returns c =
-    let run = c.args.run.now in
     let front = c.first_bits.result in
-    let still = c.matching_bits-still.result in
-    changing_in_run c.args.self.now run (run.first.point + run.taken) c.resting_from-resting.result c.missing_from-missing.result still front _ refl
-    c.requires c.resting_from-resting.ensures c.missing_from-missing.ensures c.matching_bits-still.ensures c.first_bits.ensures
-    (λ k eight. has_bit-and front (bit_not w8 still) k ∙ ap (λ b. has_bit front k && b) (has_bit-not w8 still k c.matching_bits-still.type_inv eight))
-    (let less = and_le_l front (bit_not w8 still) in omega (arith, less, c.first_bits.type_inv))
+    let behind = c.bits_from.result in
+    changing_in_run c.args.self.now c.args.run.now c.still_bits-still.result behind front _ c.requires c.still_bits-still.ensures c.bits_from.ensures
+    c.first_bits.ensures
+    (λ k eight. has_bit-and front (bit_not w8 behind) k ∙ ap (λ b. has_bit front k && b) (has_bit-not w8 behind k c.bits_from.type_inv eight))
+    (let less = and_le_l front (bit_not w8 behind) in omega (arith, less, c.first_bits.type_inv))

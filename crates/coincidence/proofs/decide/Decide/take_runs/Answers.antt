@@ -1,87 +1,26 @@
-use Rattle.std.proofs.Common.{◌≡◌, ℕ, List, ◌+◌, ◌<◌, ◌++◌, length, take, drop, get_or, subst, arith}
-use Rattle.std.proofs.lemmas.List.{take_all}
-use Rattle.tick_units.specs.Lane.{HasRoom, LaneState}
-use Rattle.answer_lanes.specs.declared.answer_group.AnswerGroup.{AnswerGroup}
-use Rattle.answer_lanes.specs.declared.run.Run.{Run}
-use Rattle.answer_lanes.specs.Points.{answer_at}
-use Rattle.answer_lanes.specs.Runs.{all_items, items_of}
-use Rattle.answer_lanes.proofs.Moving.{length_run}
-use Rattle.coincidence_rules.specs.declared.finding.Finding.{Finding}
-use Rattle.coincidence.specs.declared.decide.Decide.{Decide}
-use Rattle.coincidence.specs.Changes.{PutsFindings, TakesAnswers}
-use Rattle.coincidence.specs.Stands.{CanTake}
-use Rattle.coincidence.proofs.Turned.{can_next, puts_next, room_next, takes_next}
-use Rattle.coincidence.proofs.RunItems.{one_run_more, runs_at}
+use Rattle.coincidence.specs.Changes.{CanTakeRuns}
+use Rattle.coincidence.proofs.TakenRuns.{all_first, all_found, can_left, can_read, more_first, none_left, read_first}
 use Rattle.coincidence.proofs.decide.Decide.take_runs.Goals as goal
-use Rattle.coincidence.proofs.decide.Decide.take_runs.Goals.{In-loop-run}
+use Rattle.coincidence.proofs.decide.Decide.take_runs.Goals.{In-len1-up}
 
--- a run is reached: those before it are taken, and their findings put
-record IsReached (begun now : Decide) (runs : List (Run AnswerGroup)) (k : ℕ) (lane put : LaneState Finding) : Type 0 where
-  small : k < length runs
-  can : CanTake begun (all_items answer_at runs)
-  taken : TakesAnswers begun (all_items answer_at (take k runs)) now
-  found : PutsFindings begun (all_items answer_at (take k runs)) lane put
-
--- it may then be taken, there is room for its findings, and it is taken behind the others
-module _ {begun now : Decide} {runs : List (Run AnswerGroup)} {k : ℕ} {lane put : LaneState Finding} (h : IsReached begun now runs k lane put)
-    (d : Run AnswerGroup) where
-  abbrev run : Run AnswerGroup
-  run = get_or runs k d
-
-  more : all_items answer_at (take (k + 1) runs) ≡ all_items answer_at (take k runs) ++ items_of answer_at run
-  more = one_run_more runs k d h.small
-
-  parts : all_items answer_at runs ≡ all_items answer_at (take (k + 1) runs) ++ all_items answer_at (drop (k + 1) runs)
-  parts = runs_at runs (k + 1)
-
-  can_run : CanTake now (items_of answer_at run)
-  can_run = can_next begun now _ _ _ _ _ more parts h.can h.taken
-
-  room_run : HasRoom lane (length (all_items answer_at runs)) → HasRoom put run.count
-  room_run room =
-      subst (HasRoom put) (length_run answer_at run)
-      (room_next begun now _ _ _ _ _ more parts lane put (length (all_items answer_at runs)) h.can h.found room (omega arith))
-
-  takes_run : (next : Decide) → TakesAnswers now (items_of answer_at run) next → TakesAnswers begun (all_items answer_at (take (k + 1) runs)) next
-  takes_run next takes = takes_next begun now _ _ _ _ _ more parts next h.taken takes
-
-  puts_run : (after : LaneState Finding) → PutsFindings now (items_of answer_at run) put after
-      → PutsFindings begun (all_items answer_at (take (k + 1) runs)) lane after
-  puts_run after puts = puts_next begun now _ _ _ _ _ more parts lane put after h.taken h.found puts
-
-reached : (c : In-loop-run)
-    → IsReached c.args.self.now c.loop-run.self c.args.runs.now c.loop-run.run-index c.args.findings.now c.loop-run.findings
-reached c = record {
-  small = c.loop-run-test.true;
-  can = c.requires.may;
-  taken = c.loop-run.invariant.taken;
-  found = c.loop-run.invariant.found;
-}
+can_here : (c : In-len1-up) → CanTakeRuns c.loop-left.self c.loop-left.left.now c.loop-left.findings
+can_here c = can_left c.loop-left.invariant (record { held = c.requires.runs; room = c.requires.room; may = c.requires.may })
 
 pub take_run-requires : goal.take_run-requires
-take_run-requires c =
-    let h = reached (goal.at.take_run-requires c).In-loop-run in
-    record {
-      short = (c.requires.runs c.loop-run.run-index _ c.loop-run-test.true).is;
-      room = room_run h _ c.requires.room;
-      may = can_run h _;
-    }
+take_run-requires c = can_read c.loop-left.left.now _ c.in-len1-up.len_at_least _ _ (can_here (goal.at.take_run-requires c).In-len1-up)
 
-pub loop-run-preserved : goal.loop-run-preserved
-loop-run-preserved c =
-    let h = reached (goal.at.loop-run-preserved c).In-loop-run in
-    record {
-      taken = takes_run h _ c.take_run.new.self c.take_run.ensures.taken;
-      found = puts_run h _ c.take_run.new.findings c.take_run.ensures.put;
-    }
+pub pass_steady-left-requires-in-len1-up : goal.pass_steady-left-requires-in-len1-up
+pass_steady-left-requires-in-len1-up c =
+    can_left (read_first c.loop-left.left.now _ c.in-len1-up.len_at_least _ _ _ _ c.take_run.ensures)
+    (can_here (goal.at.pass_steady-left-requires-in-len1-up c).In-len1-up)
 
--- behind the last run all are taken
+pub loop-left-preserved : goal.loop-left-preserved
+loop-left-preserved c =
+    more_first c.loop-left.invariant _ _ _
+    (more_first (read_first c.loop-left.left.now _ c.in-len1-up.len_at_least _ _ _ _ c.take_run.ensures) _ _ _ c.pass_steady-left-in-len1-up.ensures)
+
 pub returns-clause-taken : goal.returns-clause-taken
-returns-clause-taken c =
-    subst (λ runs. TakesAnswers c.args.self.now (all_items answer_at runs) c.loop-run.self)
-    (take_all c.loop-run.run-index c.args.runs.now c.loop-run-test.false) c.loop-run.invariant.taken
+returns-clause-taken c = all_first c.loop-left.invariant (none_left c.loop-left.left.now c.in_default.len_below)
 
 pub returns-clause-findings : goal.returns-clause-findings
-returns-clause-findings c =
-    subst (λ runs. PutsFindings c.args.self.now (all_items answer_at runs) c.args.findings.now c.loop-run.findings)
-    (take_all c.loop-run.run-index c.args.runs.now c.loop-run-test.false) c.loop-run.invariant.found
+returns-clause-findings c = all_found c.loop-left.invariant (none_left c.loop-left.left.now c.in_default.len_below)
