@@ -53,16 +53,19 @@ zone_done operation at watch =
       cancelled = last_if (on_watched (λ place. is_cancel place operation) watch.place) at watch.cancelled;
     }
 
-abbrev pub zone_taken : Finding → ZoneWatch → ZoneWatch
-zone_taken finding watch =
+-- a zone takes note of what a finding tells by a bit
+abbrev pub zone_told : ℕ → Finding → ZoneWatch → ZoneWatch
+zone_told bit finding watch =
     record watch {
-      confirmed = stamp_if (has_bit finding.confirmed watch.bit) finding.stamp watch.confirmed;
-      called = stamp_if (has_bit finding.manual watch.bit) finding.stamp watch.called;
-      released = stamp_if (has_bit finding.released watch.bit) finding.stamp watch.released;
-      told =
-          stamp_if (has_bit finding.counted watch.bit && not (has_bit finding.manual watch.bit)) finding.stamp
-          watch.told;
+      confirmed = stamp_if (has_bit finding.confirmed bit) finding.stamp watch.confirmed;
+      called = stamp_if (has_bit finding.manual bit) finding.stamp watch.called;
+      released = stamp_if (has_bit finding.released bit) finding.stamp watch.released;
+      told = stamp_if (has_bit finding.counted bit && not (has_bit finding.manual bit)) finding.stamp watch.told;
     }
+
+-- a zone takes note of what a finding tells of it
+abbrev pub zone_taken : Finding → ZoneWatch → ZoneWatch
+zone_taken finding watch = zone_told watch.bit finding watch
 
 abbrev pub first_shows : ℕ → ZoneWatch → Option ℕ → Bool
 first_shows tick watch None = false
@@ -105,9 +108,9 @@ Marks finding before zones =
     (zones.changed ≡ bit_or before.changed (told_by finding))
     ⊎ ((zones.changed ≡ before.changed) × IsShown finding before.signs)
 
--- the zone at one place takes the finding, each other one stays
+-- the zone at one place takes note of what the finding tells by the bit of that number, each other one stays
 abbrev pub zone_taken_at : ℕ → Finding → ℕ → ZoneWatch → ZoneWatch
-zone_taken_at place finding other watch = if place == other then zone_taken finding watch else watch
+zone_taken_at place finding other watch = if place == other then zone_told place finding watch else watch
 
 -- the later of two ticks
 abbrev pub later_tick : Tick → Tick → Tick

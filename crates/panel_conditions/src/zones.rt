@@ -1,10 +1,10 @@
 ghost use Rattle.std.specs.Prelude.{◌≡◌, ◌-◌, ◌^◌, ◌<◌, ◌≤◌, ℕ, map, length, slice_get, bit_or, nat_lt};
-ghost use Rattle.std.specs.Prelude.{if◌then◌else◌, IfOk, option_copied, option_map, true};
+ghost use Rattle.std.specs.Prelude.{◌+◌, if◌then◌else◌, IfNone, IfOk, IfSome, false, option_copied, option_map, true};
 ghost use Rattle.coincidence_rules.specs.Places.{numbered};
 ghost use Rattle.answer_lanes.specs.Points.{finding_at};
 ghost use Rattle.answer_lanes.specs.Runs.{HasShortCount, items_of};
 
-use crate::next_bit::next_bit;
+use crate::next_bit::{lowest_bit, next_bit};
 use crate::sign::Sign;
 use crate::signs::Signs;
 use crate::zone_watch::ZoneWatch;
@@ -63,7 +63,7 @@ impl Zones {
         if tells_no_zone(&run.first) {
             return;
         }
-        let Some(place) = run.first.first_telling(run.taken, run.count) else {
+        let Some(place) = telling_place(run) else {
             return;
         };
         self.take(&telling_at(&run.first, place));
@@ -79,11 +79,11 @@ impl Zones {
         ensures signs { self.new.signs ≡ self.old.signs }
         ensures moved { self.new.moved ≡ self.old.moved }
     {
-        let told = told(finding);
-        let mut k = next_bit(told, 0);
-        while k < 32 {
+        let mut left = told(finding);
+        while left != 0 {
+            let k = lowest_bit(left);
             self.take_at(k, finding);
-            k = next_bit(told, k + 1);
+            left = with_bit_32(left, k, false);
         }
         self.mark(finding);
     }
@@ -101,6 +101,7 @@ impl Zones {
 
     // Takes note of a finding that tells of the zone at a place.
     fn take_at(&mut self, k: u8, finding: &Finding)
+        requires { k < 32 }
         ensures watches { (j : ℕ)
             → slice_get self.new.watches.items j ≡ option_map (zone_taken_at k finding.now j)
             (slice_get self.old.watches.items j) }
@@ -111,7 +112,7 @@ impl Zones {
         let place = k as usize;
         if place < self.watches.len() {
             let watch = &mut self.watches[place];
-            watch.take(finding);
+            watch.take(k, finding);
         }
     }
 
@@ -224,11 +225,29 @@ ghost use Rattle.panel_conditions.specs.Stands.{first_watch, within_of, within_r
 
 // Whether no finding of a group tells of a zone.
 fn tells_no_zone(group: &FindingGroup) -> bool
-    ensures { result ≡ true → TellsNoZone group.now }
+    ensures none { result ≡ true → TellsNoZone group.now }
+    ensures some { result ≡ false → 0 < group.now.telling }
 {
     group.telling == 0
         || (group.counted == 0
             && (group.confirmed == 0 && (group.manual == 0 && group.released == 0)))
+}
+
+// The place of one of a run's findings that tells of zones, if there is one. Mostly it is the group's first.
+fn telling_place(run: &Run<FindingGroup>) -> Option<u8>
+    requires short { HasShortCount run.now }
+    requires some { 0 < run.now.first.telling }
+    ensures some { IfSome result (λ place. (run.now.taken ≤ place)
+        × (place < run.now.taken + run.now.count) × (has_bit run.now.first.telling place ≡ true)) }
+    ensures none { IfNone result ((k : ℕ) → k < run.now.count
+        → has_bit run.now.first.telling (run.now.taken + k) ≡ false) }
+{
+    let lowest = lowest_bit(run.first.telling as u32);
+    if lowest.wrapping_sub(run.taken) < run.count {
+        Some(lowest)
+    } else {
+        run.first.first_telling(run.taken, run.count)
+    }
 }
 
 // The finding at a place of a group where one tells of zones.

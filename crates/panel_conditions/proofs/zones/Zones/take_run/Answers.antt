@@ -7,7 +7,7 @@ use Rattle.panel_conditions.proofs.zones.Zones.take_run.Goals as goal
 
 pub returns-then-tells_no_zone-clause-watches : goal.returns-then-tells_no_zone-clause-watches
 returns-then-tells_no_zone-clause-watches c site panel done taken h =
-    taken_by_nothing site panel done taken c.args.run.now c.args.self.now.watches.items (c.tells_no_zone.ensures c.if-tells_no_zone.true) h
+    taken_by_nothing site panel done taken c.args.run.now c.args.self.now.watches.items (c.tells_no_zone.ensures.none c.if-tells_no_zone.true) h
 
 pub returns-in_default-clause-watches : goal.returns-in_default-clause-watches
 returns-in_default-clause-watches c site panel done taken h =
