@@ -14,6 +14,7 @@ pub mod PointSwitches
 pub mod Masked
 pub mod Drawn
 pub mod AlreadyShown
+pub mod Plain
 pub mod BeforeOperation
 pub mod Unchanged
 pub mod Alike

@@ -3,6 +3,7 @@ use Rattle.std.proofs.Common.{◌≡◌, ◌≢◌, ◌⊎◌, inl, inr, ℕ, �
 use Rattle.std.specs.Int.{w32, bit_at, trailing_zeros}
 use Rattle.std.proofs.lemmas.Nat.{and_le_l, shr-shr, shr_below, shr_le}
 use Rattle.std.proofs.lemmas.Nat.Bits.{bit_at-trailing_zeros, bit_at_above}
+use Rattle.std.proofs.lemmas.Bool.Decides.{eqb_tells}
 use Rattle.site_types.specs.Bits.{has_bit, with_bit}
 use Rattle.site_types.proofs.Masks.{has_bit-above, has_bit-zero}
 use Rattle.site_types.proofs.Done.{lt_tells}
@@ -68,4 +69,12 @@ pub others_stay : (mask rest bit j : ℕ) → mask < 2 ^ 32 → rest < 2 ^ 32
 others_stay mask rest bit j fits below others apart = elim (lt_tells j 32) [
   | inl less ↦ others j less.1 apart
   | inr past ↦ has_bit-above 32 rest j below past.1 ∙ sym (has_bit-above 32 mask j fits past.1)
+]
+
+-- no bit is new
+pub fewer_bits : (mask rest bit : ℕ) → mask < 2 ^ 32 → rest < 2 ^ 32 → ((k : ℕ) → k < 32 → k ≢ bit → has_bit rest k ≡ has_bit mask k)
+    → has_bit rest bit ≡ false → (j : ℕ) → has_bit rest j ≡ true → has_bit mask j ≡ true
+fewer_bits mask rest bit fits below others cleared j on = elim (eqb_tells j bit) [
+  | inl same ↦ absurd (let off = ap (has_bit rest) same.1 ∙ cleared in let no_way : true ≡ false = sym on ∙ off in cc)
+  | inr far ↦ sym (others_stay mask rest bit j fits below others far.1) ∙ on
 ]

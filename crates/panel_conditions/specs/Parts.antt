@@ -96,6 +96,19 @@ TellsNoZone group = (group.telling ≡ 0)
 abbrev pub told_by : Finding → ℕ
 told_by finding = bit_or (bit_or (bit_or finding.counted finding.confirmed) finding.manual) finding.released
 
+-- a finding tells of a zone, by its bit, that an answer of a detector counted, confirmed it and released it
+pub record TellsPlainly (bit : ℕ) (finding : Finding) : Type 0 where
+  pub counted : has_bit finding.counted bit ≡ true
+  pub confirmed : has_bit finding.confirmed bit ≡ true
+  pub released : has_bit finding.released bit ≡ true
+  pub manual : has_bit finding.manual bit ≡ false
+
+-- a finding tells this of each of its zones
+pub record IsPlain (finding : Finding) : Type 0 where
+  pub counted : finding.counted ≡ finding.confirmed
+  pub released : finding.released ≡ finding.confirmed
+  pub manual : finding.manual ≡ 0
+
 -- a finding tells nothing but what is shown
 pub record IsShown (finding : Finding) (signs : Signs) : Type 0 where
   pub alarm : bit_or (bit_or finding.counted finding.confirmed) signs.alarm ≡ signs.alarm

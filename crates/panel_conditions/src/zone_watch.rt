@@ -1,7 +1,7 @@
-ghost use Rattle.std.specs.Prelude.{◌≡◌, ◌<◌, ◌&&◌, nat_lt, if◌then◌else◌};
+ghost use Rattle.std.specs.Prelude.{◌≡◌, ◌<◌, ◌&&◌, ℕ, nat_lt, if◌then◌else◌};
 ghost use Rattle.site_types.specs.Done.{is_cancel};
 ghost use Rattle.panel_conditions.specs.Parts.{first_shows, on_watched, raises, stamp_if, zone_done, zone_shows};
-ghost use Rattle.panel_conditions.specs.Parts.{zone_told};
+ghost use Rattle.panel_conditions.specs.Parts.{TellsPlainly, zone_told};
 
 use crate::sign::Sign;
 use coincidence_rules::Finding;
@@ -63,6 +63,16 @@ impl ZoneWatch {
         raise_if(manual, finding.stamp, &mut self.called);
         raise_if(released, finding.stamp, &mut self.released);
         raise_if(told, finding.stamp, &mut self.told);
+    }
+
+    /// Takes note of a finding that confirms the zone plainly.
+    pub fn confirm(&mut self, finding: &Finding)
+        ensures { (bit : ℕ) → TellsPlainly bit finding.now
+            → self.new ≡ zone_told bit finding.now self.old }
+    {
+        raise_if(true, finding.stamp, &mut self.confirmed);
+        raise_if(true, finding.stamp, &mut self.released);
+        raise_if(true, finding.stamp, &mut self.told);
     }
 
     /// Takes note of an operation that was done in a tick.

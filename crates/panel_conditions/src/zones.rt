@@ -31,9 +31,9 @@ pub struct Zones {
 
 impl Zones {
     ghost use Rattle.panel_conditions.specs.Parts.{drawn_mask, later_tick, signs_at, told_by, watch_shows, zone_done};
-    ghost use Rattle.panel_conditions.specs.Parts.{Marks, zone_taken, zone_taken_at};
+    ghost use Rattle.panel_conditions.specs.Parts.{IsPlain, Marks, TellsPlainly, zone_taken, zone_taken_at};
     ghost use Rattle.panel_conditions.specs.Changes.{WatchesZonesMore, ZonesStaySettled};
-    ghost use Rattle.panel_conditions.specs.Stands.{AreNumbered, Settled, first_watch, are_first_watches};
+    ghost use Rattle.panel_conditions.specs.Stands.{AreNumbered, Settled, ZonesTake, first_watch, are_first_watches};
 
     /// The zones of a panel, of which nothing was told.
     pub fn new(alloc: Global, site: &Site, panel: u8) -> Result<Zones, NoMemory>
@@ -79,13 +79,51 @@ impl Zones {
         ensures signs { self.new.signs ≡ self.old.signs }
         ensures moved { self.new.moved ≡ self.old.moved }
     {
+        if is_plain(finding) {
+            self.take_plain(finding);
+            self.mark_plain(finding);
+        } else {
+            self.take_each(finding);
+            self.mark(finding);
+        }
+    }
+
+    // Takes note of a finding that confirms zones plainly.
+    fn take_plain(&mut self, finding: &Finding)
+        requires { IsPlain finding.now }
+        ensures { ZonesTake finding.now self.old self.new }
+    {
+        let mut left = finding.confirmed;
+        while left != 0 {
+            let k = lowest_bit(left);
+            self.confirm_at(k, finding);
+            left = with_bit_32(left, k, false);
+        }
+    }
+
+    // Takes note of a finding in each zone of which it tells.
+    fn take_each(&mut self, finding: &Finding)
+        ensures { ZonesTake finding.now self.old self.new }
+    {
         let mut left = told(finding);
         while left != 0 {
             let k = lowest_bit(left);
             self.take_at(k, finding);
             left = with_bit_32(left, k, false);
         }
-        self.mark(finding);
+    }
+
+    // Marks the zones that a finding confirms plainly, where any of them isn't shown both in alarm and released.
+    fn mark_plain(&mut self, finding: &Finding)
+        requires { IsPlain finding.now }
+        ensures marks { Marks finding.now self.old self.new }
+        ensures rest { (self.new.watches ≡ self.old.watches) × (self.new.signs ≡ self.old.signs)
+            × (self.new.moved ≡ self.old.moved) }
+    {
+        let shown = finding.confirmed & self.signs.alarm & self.signs.released;
+        if shown != finding.confirmed {
+            self.changed |= finding.confirmed;
+        }
     }
 
     // Marks the zones of which a finding tells, where it tells anything that isn't shown.
@@ -113,6 +151,23 @@ impl Zones {
         if place < self.watches.len() {
             let watch = &mut self.watches[place];
             watch.take(k, finding);
+        }
+    }
+
+    // Takes note of a finding that confirms the zone at a place plainly.
+    fn confirm_at(&mut self, k: u8, finding: &Finding)
+        requires { TellsPlainly k finding.now }
+        ensures watches { (j : ℕ)
+            → slice_get self.new.watches.items j ≡ option_map (zone_taken_at k finding.now j)
+            (slice_get self.old.watches.items j) }
+        ensures count { length self.new.watches.items ≡ length self.old.watches.items }
+        ensures rest { (self.new.changed ≡ self.old.changed) × (self.new.signs ≡ self.old.signs)
+            × (self.new.moved ≡ self.old.moved) }
+    {
+        let place = k as usize;
+        if place < self.watches.len() {
+            let watch = &mut self.watches[place];
+            watch.confirm(finding);
         }
     }
 
@@ -220,7 +275,7 @@ impl Zones {
 }
 
 ghost use Rattle.site_types.specs.Bits.{has_bit};
-ghost use Rattle.panel_conditions.specs.Parts.{IsShown, TellsNoZone, told_by};
+ghost use Rattle.panel_conditions.specs.Parts.{IsPlain, IsShown, TellsNoZone, told_by};
 ghost use Rattle.panel_conditions.specs.Stands.{first_watch, within_of, within_rule};
 
 // Whether no finding of a group tells of a zone.
@@ -273,6 +328,15 @@ fn is_shown(finding: &Finding, signs: &Signs) -> bool
     finding.counted | finding.confirmed | signs.alarm == signs.alarm
         && finding.manual | signs.manual == signs.manual
         && finding.released | signs.released == signs.released
+}
+
+// Whether a finding tells of each of its zones that an answer of a detector counted, confirmed it and released it.
+fn is_plain(finding: &Finding) -> bool
+    ensures { result ≡ true → IsPlain finding.now }
+{
+    finding.manual == 0
+        && finding.counted == finding.confirmed
+        && finding.released == finding.confirmed
 }
 
 // The zones of which a finding tells.

@@ -1,7 +1,7 @@
 use Rattle.std.proofs.Common.{◌∙◌, slice_get, refl, ap, sym}
 use Rattle.panel_conditions.proofs.Drawn.{taken_but, taken_not_yet, taken_more, taken_by_all}
 use Rattle.panel_conditions.proofs.NextBit.{cleared_smaller, others_stay}
-use Rattle.panel_conditions.proofs.zones.Zones.take.Goals as goal
+use Rattle.panel_conditions.proofs.zones.Zones.take_each.Goals as goal
 
 pub loop-left-init : goal.loop-left-init
 loop-left-init c = record {
@@ -38,7 +38,13 @@ loop-left-smaller c =
     let next = c.with_bit_32-left in
     cleared_smaller c.loop-left.left c.lowest_bit-k.result next.result next.ensures.value c.lowest_bit-k.ensures.set next.ensures.this
 
-pub returns-clause-watches : goal.returns-clause-watches
-returns-clause-watches c numbered k =
-    ap (λ w. slice_get w.items k) c.mark.ensures.rest.0 ∙ c.loop-left.invariant.watches numbered k
-    ∙ taken_by_all c.args.finding.now c.loop-left.left k (slice_get c.args.self.now.watches.items k) c.loop-left-test.false
+pub returns : goal.returns
+returns c = record {
+  watches = λ numbered k.
+      c.loop-left.invariant.watches numbered k
+      ∙ taken_by_all c.args.finding.now c.loop-left.left k (slice_get c.args.self.now.watches.items k) c.loop-left-test.false;
+  count = c.loop-left.invariant.count;
+  changed = c.loop-left.invariant.changed;
+  signs = c.loop-left.invariant.signs;
+  moved = c.loop-left.invariant.moved;
+}
