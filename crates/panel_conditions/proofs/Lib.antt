@@ -20,6 +20,7 @@ pub mod Unchanged
 pub mod Alike
 -- findings that stand in runs
 pub mod Runs
+pub mod ZoneRuns
 -- the whole part: at first, and after a turn or an operation
 pub mod Firsts
 pub mod Turned

@@ -103,11 +103,24 @@ pub record TellsPlainly (bit : ℕ) (finding : Finding) : Type 0 where
   pub released : has_bit finding.released bit ≡ true
   pub manual : has_bit finding.manual bit ≡ false
 
--- a finding tells this of each of its zones
+-- a finding tells of each of its zones that an answer of a detector counted, confirmed it and released it
 pub record IsPlain (finding : Finding) : Type 0 where
   pub counted : finding.counted ≡ finding.confirmed
   pub released : finding.released ≡ finding.confirmed
   pub manual : finding.manual ≡ 0
+
+-- the findings of a group that tell of zones tell this of each of them
+pub record IsPlainGroup (group : FindingGroup) : Type 0 where
+  pub counted : group.counted ≡ group.confirmed
+  pub released : group.released ≡ group.confirmed
+  pub manual : group.manual ≡ 0
+
+-- a finding has the masks of a group
+pub record HasMasksOf (group : FindingGroup) (finding : Finding) : Type 0 where
+  pub counted : finding.counted ≡ group.counted
+  pub confirmed : finding.confirmed ≡ group.confirmed
+  pub manual : finding.manual ≡ group.manual
+  pub released : finding.released ≡ group.released
 
 -- a finding tells nothing but what is shown
 pub record IsShown (finding : Finding) (signs : Signs) : Type 0 where

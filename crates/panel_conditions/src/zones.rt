@@ -1,5 +1,5 @@
 ghost use Rattle.std.specs.Prelude.{◌≡◌, ◌-◌, ◌^◌, ◌<◌, ◌≤◌, ℕ, map, length, slice_get, bit_or, nat_lt};
-ghost use Rattle.std.specs.Prelude.{◌+◌, if◌then◌else◌, IfNone, IfOk, IfSome, false, option_copied, option_map, true};
+ghost use Rattle.std.specs.Prelude.{if◌then◌else◌, IfOk, option_copied, option_map};
 ghost use Rattle.coincidence_rules.specs.Places.{numbered};
 ghost use Rattle.answer_lanes.specs.Points.{finding_at};
 ghost use Rattle.answer_lanes.specs.Runs.{HasShortCount, items_of};
@@ -7,6 +7,7 @@ ghost use Rattle.answer_lanes.specs.Runs.{HasShortCount, items_of};
 use crate::next_bit::{lowest_bit, next_bit};
 use crate::sign::Sign;
 use crate::signs::Signs;
+use crate::told_zones::{is_plain, is_shown, telling_at, telling_place, told};
 use crate::zone_watch::ZoneWatch;
 use answer_lanes::{FindingGroup, Run};
 use coincidence_rules::Finding;
@@ -31,9 +32,9 @@ pub struct Zones {
 
 impl Zones {
     ghost use Rattle.panel_conditions.specs.Parts.{drawn_mask, later_tick, signs_at, told_by, watch_shows, zone_done};
-    ghost use Rattle.panel_conditions.specs.Parts.{IsPlain, Marks, TellsPlainly, zone_taken, zone_taken_at};
-    ghost use Rattle.panel_conditions.specs.Changes.{WatchesZonesMore, ZonesStaySettled};
-    ghost use Rattle.panel_conditions.specs.Stands.{AreNumbered, Settled, ZonesTake, first_watch, are_first_watches};
+    ghost use Rattle.panel_conditions.specs.Parts.{IsPlain, IsPlainGroup, Marks, TellsPlainly, zone_taken_at};
+    ghost use Rattle.panel_conditions.specs.Changes.{TakesZoneRun, WatchesZonesMore, ZonesStaySettled};
+    ghost use Rattle.panel_conditions.specs.Stands.{Settled, ZonesTake, first_watch, are_first_watches};
 
     /// The zones of a panel, of which nothing was told.
     pub fn new(alloc: Global, site: &Site, panel: u8) -> Result<Zones, NoMemory>
@@ -60,32 +61,46 @@ impl Zones {
         ensures settled { ZonesStaySettled self.old self.new }
         ensures moved { self.new.moved ≡ self.old.moved }
     {
-        if tells_no_zone(&run.first) {
+        if run.first.telling == 0 {
+            return;
+        }
+        if is_plain(&run.first) {
+            self.take_plain_run(run);
+        } else {
+            self.take_mixed_run(run);
+        }
+    }
+
+    // Takes note of the findings of a run, where those that tell of zones confirm them plainly.
+    fn take_plain_run(&mut self, run: &Run<FindingGroup>)
+        requires short { HasShortCount run.now }
+        requires some { 0 < run.now.first.telling }
+        requires plain { IsPlainGroup run.now.first }
+        ensures { TakesZoneRun run.now self.old self.new }
+    {
+        if run.first.confirmed == 0 {
             return;
         }
         let Some(place) = telling_place(run) else {
             return;
         };
-        self.take(&telling_at(&run.first, place));
+        let finding = telling_at(&run.first, place);
+        self.take_plain(&finding);
+        self.mark_plain(&finding);
     }
 
-    // Takes note of a finding.
-    fn take(&mut self, finding: &Finding)
-        ensures watches { AreNumbered self.old.watches.items → (k : ℕ)
-            → slice_get self.new.watches.items k ≡ option_map (zone_taken finding.now)
-            (slice_get self.old.watches.items k) }
-        ensures count { length self.new.watches.items ≡ length self.old.watches.items }
-        ensures marks { Marks finding.now self.old self.new }
-        ensures signs { self.new.signs ≡ self.old.signs }
-        ensures moved { self.new.moved ≡ self.old.moved }
+    // Takes note of the findings of a run, whatever those that tell of zones tell of them.
+    fn take_mixed_run(&mut self, run: &Run<FindingGroup>)
+        requires short { HasShortCount run.now }
+        requires some { 0 < run.now.first.telling }
+        ensures { TakesZoneRun run.now self.old self.new }
     {
-        if is_plain(finding) {
-            self.take_plain(finding);
-            self.mark_plain(finding);
-        } else {
-            self.take_each(finding);
-            self.mark(finding);
-        }
+        let Some(place) = telling_place(run) else {
+            return;
+        };
+        let finding = telling_at(&run.first, place);
+        self.take_each(&finding);
+        self.mark(&finding);
     }
 
     // Takes note of a finding that confirms zones plainly.
@@ -274,77 +289,7 @@ impl Zones {
     }
 }
 
-ghost use Rattle.site_types.specs.Bits.{has_bit};
-ghost use Rattle.panel_conditions.specs.Parts.{IsPlain, IsShown, TellsNoZone, told_by};
 ghost use Rattle.panel_conditions.specs.Stands.{first_watch, within_of, within_rule};
-
-// Whether no finding of a group tells of a zone.
-fn tells_no_zone(group: &FindingGroup) -> bool
-    ensures none { result ≡ true → TellsNoZone group.now }
-    ensures some { result ≡ false → 0 < group.now.telling }
-{
-    group.telling == 0
-        || (group.counted == 0
-            && (group.confirmed == 0 && (group.manual == 0 && group.released == 0)))
-}
-
-// The place of one of a run's findings that tells of zones, if there is one. Mostly it is the group's first.
-fn telling_place(run: &Run<FindingGroup>) -> Option<u8>
-    requires short { HasShortCount run.now }
-    requires some { 0 < run.now.first.telling }
-    ensures some { IfSome result (λ place. (run.now.taken ≤ place)
-        × (place < run.now.taken + run.now.count) × (has_bit run.now.first.telling place ≡ true)) }
-    ensures none { IfNone result ((k : ℕ) → k < run.now.count
-        → has_bit run.now.first.telling (run.now.taken + k) ≡ false) }
-{
-    let lowest = lowest_bit(run.first.telling as u32);
-    if lowest.wrapping_sub(run.taken) < run.count {
-        Some(lowest)
-    } else {
-        run.first.first_telling(run.taken, run.count)
-    }
-}
-
-// The finding at a place of a group where one tells of zones.
-fn telling_at(group: &FindingGroup, place: u8) -> Finding
-    requires { has_bit group.now.telling place ≡ true }
-    ensures { result ≡ finding_at group.now place }
-{
-    Finding {
-        stamp: group.stamp,
-        point: group.point.saturating_add(place as u16),
-        counted: group.counted,
-        confirmed: group.confirmed,
-        manual: group.manual,
-        released: group.released,
-        missing: group.is_missing(place),
-    }
-}
-
-// Whether a finding tells nothing but what is shown.
-fn is_shown(finding: &Finding, signs: &Signs) -> bool
-    ensures { result ≡ true → IsShown finding.now signs.now }
-{
-    finding.counted | finding.confirmed | signs.alarm == signs.alarm
-        && finding.manual | signs.manual == signs.manual
-        && finding.released | signs.released == signs.released
-}
-
-// Whether a finding tells of each of its zones that an answer of a detector counted, confirmed it and released it.
-fn is_plain(finding: &Finding) -> bool
-    ensures { result ≡ true → IsPlain finding.now }
-{
-    finding.manual == 0
-        && finding.counted == finding.confirmed
-        && finding.released == finding.confirmed
-}
-
-// The zones of which a finding tells.
-fn told(finding: &Finding) -> u32
-    ensures { result ≡ told_by finding.now }
-{
-    finding.counted | finding.confirmed | finding.manual | finding.released
-}
 
 // The zones to look at after they were drawn at a tick: all, if an operation of that tick or a later one is
 // yet to come in force.
