@@ -11,8 +11,8 @@ use Rattle.site_types.specs.declared.site.Site.{Site}
 use Rattle.tick_units.specs.declared.tick.Tick.{Tick}
 use Rattle.site_types.specs.Bits.{has_bit, mask_of}
 use Rattle.site_types.specs.declared.operation.Operation.{Operation}
-use Rattle.site_types.proofs.Masks.{mask_from_bits, mask_same, has_bit-mask, has_bit-or, has_bit-above, has_bit-zero}
-use Rattle.site_types.proofs.Done.{lt_tells, lt_true, lt_false}
+use Rattle.site_types.proofs.Masks.{mask_from_bits, mask_same, has_bit-mask, has_bit-or, has_bit-zero}
+use Rattle.site_types.proofs.Done.{lt_tells, lt_true}
 use Rattle.coincidence_rules.specs.declared.finding.Finding.{Finding}
 use Rattle.tick_units.specs.declared.last_done.LastDone.{LastDone}
 use Rattle.panel_conditions.specs.declared.sign.Sign.{Sign}
@@ -20,7 +20,7 @@ use Rattle.panel_conditions.specs.declared.sign.Sign.TheVariants.{Alarm, Manual,
 use Rattle.panel_conditions.specs.declared.signs.Signs.{Signs}
 use Rattle.panel_conditions.specs.declared.zone_watch.ZoneWatch.{ZoneWatch}
 use Rattle.panel_conditions.specs.declared.zones.Zones.{Zones}
-use Rattle.panel_conditions.specs.Parts.{first_shows, later_tick, sign_at, sign_mask, signs_at, told_by, watch_shows, zone_done, zone_taken, zone_taken_at}
+use Rattle.panel_conditions.specs.Parts.{first_shows, later_tick, sign_at, sign_mask, signs_at, told_by, watch_shows, zone_done, zone_taken, zone_taken_at, zone_told}
 use Rattle.tick_units.specs.LastTicks.{last_at, last_if}
 use Rattle.panel_conditions.specs.Stands.{AreNumbered, Settled, are_first_watches}
 use Rattle.panel_conditions.proofs.Watched.{get_map}
@@ -218,50 +218,53 @@ up_more k next look j new old was after less on none is here elsewhere = elim (e
 pub up_all : {X : Type 0} (k look j : ℕ) (new old : X) → j < k → up_to k look j new old ≡ (if has_bit look j then new else old)
 up_all k look j new old less = ap (λ b. if b && has_bit look j then new else old) (lt_true j k less)
 
-abbrev pub told_up_to : ℕ → Finding → ℕ → Option ZoneWatch → Option ZoneWatch
-told_up_to k f j o = up_to k (told_by f) j (option_map (zone_taken f) o) o
+-- what stands at a place, where the zones of a mask are yet to take a finding
+abbrev pub taken_but : ℕ → ℕ → Finding → Option ZoneWatch → Option ZoneWatch
+taken_but left j f o = if has_bit left j then o else option_map (zone_taken f) o
 
-at_place : (k j : ℕ) (f : Finding) (o : Option ZoneWatch) (b : Bool) → (k == j) ≡ b
-    → option_map (zone_taken_at k f j) o ≡ (if b then option_map (zone_taken f) o else o)
-at_place k j f None true e = refl
-at_place k j f None false e = refl
-at_place k j f (Some watch) true e = ap (λ b. Some (if b then zone_taken f watch else watch)) e
-at_place k j f (Some watch) false e = ap (λ b. Some (if b then zone_taken f watch else watch)) e
-
-pub told_more : (k next : ℕ) (f : Finding) (j : ℕ) (first o after : Option ZoneWatch) → k < next → has_bit (told_by f) k ≡ true
-    → ((i : ℕ) → k + 1 ≤ i → i < next → has_bit (told_by f) i ≡ false) →
-    o ≡ told_up_to k f j first → after ≡ option_map (zone_taken_at k f j) o → after ≡ told_up_to next f j first
-told_more k next f j first o after less on none was is =
-    up_more k next (told_by f) j (option_map (zone_taken f) first) first o after less on none was
-    (λ e. is ∙ at_place k j f o true (eq-eqb k j e)
-    ∙ ap (option_map (zone_taken f)) (was ∙ ap (λ b. if b && has_bit (told_by f) j then option_map (zone_taken f) first else first)
-    (lt_false j k (omega (arith, e)))))
-    (λ apart. is ∙ at_place k j f o false (neq_false k j apart))
-
--- all places were told
-pub told_all : (k : ℕ) (f : Finding) (j : ℕ) (o : Option ZoneWatch) → told_by f < 2 ^ 32 → 32 ≤ k
-    → ((watch : ZoneWatch) → o ≡ Some watch → watch.bit ≡ j) → told_up_to k f j o ≡ option_map (zone_taken f) o
-told_all k f j None below past numbered = none (nat_lt j k && has_bit (told_by f) j)
+-- none took it yet
+pub taken_not_yet : (f : Finding) (j : ℕ) (o : Option ZoneWatch) → ((watch : ZoneWatch) → o ≡ Some watch → watch.bit ≡ j)
+    → o ≡ taken_but (told_by f) j f o
+taken_not_yet f j o numbered = go (has_bit (told_by f) j) refl o numbered
   where
-    none : (b : Bool) → ◌≡◌ {A = Option ZoneWatch} (if b then None else None) None
-    none true = refl
-    none false = refl
-told_all k f j (Some watch) below past numbered = go (has_bit (told_by f) j) refl (lt_tells j k)
-  where
-    go : (b : Bool) → has_bit (told_by f) j ≡ b → ((nat_lt j k ≡ true) × (j < k)) ⊎ ((nat_lt j k ≡ false) × (k ≤ j))
-        → (if nat_lt j k && has_bit (told_by f) j then Some (zone_taken f watch) else Some watch) ≡ Some (zone_taken f watch)
-    go false off either =
-        let same = untold f watch (ap (has_bit (told_by f)) (numbered watch refl) ∙ off) in
-        either_same (nat_lt j k && has_bit (told_by f) j) same
-      where
-        either_same : (b : Bool) → zone_taken f watch ≡ watch → (if b then Some (zone_taken f watch) else Some watch) ≡ Some (zone_taken f watch)
-        either_same true e = refl
-        either_same false e = ap (λ w. Some w) (sym e)
-    go true on (inl less) =
-        ap (λ b. if b && has_bit (told_by f) j then Some (zone_taken f watch) else Some watch) less.0 ∙ ap
-        (λ b. if b then Some (zone_taken f watch) else Some watch) on
-    go true on (inr other) = absurd (let o = other.1 in let off = has_bit-above 32 (told_by f) j below (omega (arith, o, past)) in
-        let no_way : true ≡ false = sym on ∙ off in cc)
+    go : (b : Bool) → has_bit (told_by f) j ≡ b → (o : Option ZoneWatch) → ((watch : ZoneWatch) → o ≡ Some watch → watch.bit ≡ j)
+        → o ≡ (if b then o else option_map (zone_taken f) o)
+    go true e o numbered = refl
+    go false e None numbered = refl
+    go false e (Some watch) numbered =
+        ap (λ w. Some w) (sym (untold f watch (ap (has_bit (told_by f)) (numbered watch refl) ∙ e)))
+
+at_other : (k j : ℕ) (f : Finding) (o : Option ZoneWatch) → (k == j) ≡ false → option_map (zone_taken_at k f j) o ≡ o
+at_other k j f None e = refl
+at_other k j f (Some watch) e = ap (λ b. Some (if b then zone_told k f watch else watch)) e
+
+at_place : (k j : ℕ) (f : Finding) (o : Option ZoneWatch) → (k == j) ≡ true → k ≡ j
+    → ((watch : ZoneWatch) → o ≡ Some watch → watch.bit ≡ j) → option_map (zone_taken_at k f j) o ≡ option_map (zone_taken f) o
+at_place k j f None e same numbered = refl
+at_place k j f (Some watch) e same numbered =
+    ap (λ b. Some (if b then zone_told k f watch else watch)) e
+    ∙ ap (λ n. Some (zone_told n f watch)) (same ∙ sym (numbered watch refl))
+
+-- one zone more took it
+pub taken_more : (k left rest : ℕ) (f : Finding) (j : ℕ) (first o after : Option ZoneWatch)
+    → ((watch : ZoneWatch) → first ≡ Some watch → watch.bit ≡ j) → has_bit left k ≡ true → has_bit rest k ≡ false
+    → (j ≢ k → has_bit rest j ≡ has_bit left j) → o ≡ taken_but left j f first → after ≡ option_map (zone_taken_at k f j) o
+    → after ≡ taken_but rest j f first
+taken_more k left rest f j first o after numbered on off others was is = elim (eqb_tells k j) [
+  | inl same ↦
+      (let e = same.1 in
+      let before : o ≡ first = was ∙ ap (λ b. if b then first else option_map (zone_taken f) first) (ap (has_bit left) (sym e) ∙ on) in
+      is ∙ ap (option_map (zone_taken_at k f j)) before ∙ at_place k j f first (eq-eqb k j e) e numbered
+      ∙ sym (ap (λ b. if b then first else option_map (zone_taken f) first) (ap (has_bit rest) (sym e) ∙ off)))
+  | inr far ↦
+      is ∙ at_other k j f o (neq_false k j far.1) ∙ was
+      ∙ sym (ap (λ b. if b then first else option_map (zone_taken f) first) (others (λ e. far.1 (sym e))))
+]
+
+-- all took it
+pub taken_by_all : (f : Finding) (left j : ℕ) (o : Option ZoneWatch) → left ≡ 0 → taken_but left j f o ≡ option_map (zone_taken f) o
+taken_by_all f left j o none =
+    ap (λ b. if b then o else option_map (zone_taken f) o) (ap (λ m. has_bit m j) none ∙ has_bit-zero j)
 
 -- ---- what was held stays
 

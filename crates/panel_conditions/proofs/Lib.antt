@@ -14,11 +14,13 @@ pub mod PointSwitches
 pub mod Masked
 pub mod Drawn
 pub mod AlreadyShown
+pub mod Plain
 pub mod BeforeOperation
 pub mod Unchanged
 pub mod Alike
 -- findings that stand in runs
 pub mod Runs
+pub mod ZoneRuns
 -- the whole part: at first, and after a turn or an operation
 pub mod Firsts
 pub mod Turned

@@ -1,10 +1,11 @@
 -- The first bit that is set from a bit on.
-use Rattle.std.proofs.Common.{◌≡◌, ◌⊎◌, inl, inr, ℕ, ◌+◌, ◌-◌, ◌/◌, ◌%◌, ◌<◌, ◌≤◌, ◌^◌, true, false, ◌==◌, nat_lt, sym, ◌∙◌, ap, subst, arith}
+use Rattle.std.proofs.Common.{◌≡◌, ◌≢◌, ◌⊎◌, inl, inr, ℕ, ◌+◌, ◌-◌, ◌/◌, ◌%◌, ◌<◌, ◌≤◌, ◌^◌, true, false, ◌==◌, nat_lt, sym, ◌∙◌, ap, subst, arith}
 use Rattle.std.specs.Int.{w32, bit_at, trailing_zeros}
-use Rattle.std.proofs.lemmas.Nat.{shr-shr, shr_below, shr_le}
+use Rattle.std.proofs.lemmas.Nat.{and_le_l, shr-shr, shr_below, shr_le}
 use Rattle.std.proofs.lemmas.Nat.Bits.{bit_at-trailing_zeros, bit_at_above}
-use Rattle.site_types.specs.Bits.{has_bit}
-use Rattle.site_types.proofs.Masks.{has_bit-zero}
+use Rattle.std.proofs.lemmas.Bool.Decides.{eqb_tells}
+use Rattle.site_types.specs.Bits.{has_bit, with_bit}
+use Rattle.site_types.proofs.Masks.{has_bit-above, has_bit-zero}
 use Rattle.site_types.proofs.Done.{lt_tells}
 
 shifted : (mask from i : ℕ) → has_bit (mask / 2 ^ from) i ≡ has_bit mask (from + i)
@@ -54,3 +55,26 @@ next_from mask from zeros below small some e = record {
         → from + zeros < 32
     within (inl less) = let l = less.1 in omega (arith, l, small)
     within (inr other) = let none : bit_at rest zeros ≡ 0 = bit_at_above rest (32 - from) zeros fits other.1 in let no_way = sym none ∙ one in cc
+
+-- a mask is smaller where a bit of it was cleared
+pub cleared_smaller : (mask bit rest : ℕ) → rest ≡ with_bit w32 mask bit false → has_bit mask bit ≡ true → has_bit rest bit ≡ false → rest < mask
+cleared_smaller mask bit rest is was cleared =
+    let least : rest ≤ mask = subst (λ n. n ≤ mask) (sym is) (and_le_l mask _) in
+    let apart : rest ≢ mask = λ e. (let at = ap (λ n. has_bit n bit) e in cc) in
+    omega (arith, least, apart)
+
+-- all other bits stay, those past the end of the mask too
+pub others_stay : (mask rest bit j : ℕ) → mask < 2 ^ 32 → rest < 2 ^ 32
+    → ((k : ℕ) → k < 32 → k ≢ bit → has_bit rest k ≡ has_bit mask k) → j ≢ bit → has_bit rest j ≡ has_bit mask j
+others_stay mask rest bit j fits below others apart = elim (lt_tells j 32) [
+  | inl less ↦ others j less.1 apart
+  | inr past ↦ has_bit-above 32 rest j below past.1 ∙ sym (has_bit-above 32 mask j fits past.1)
+]
+
+-- no bit is new
+pub fewer_bits : (mask rest bit : ℕ) → mask < 2 ^ 32 → rest < 2 ^ 32 → ((k : ℕ) → k < 32 → k ≢ bit → has_bit rest k ≡ has_bit mask k)
+    → has_bit rest bit ≡ false → (j : ℕ) → has_bit rest j ≡ true → has_bit mask j ≡ true
+fewer_bits mask rest bit fits below others cleared j on = elim (eqb_tells j bit) [
+  | inl same ↦ absurd (let off = ap (has_bit rest) same.1 ∙ cleared in let no_way : true ≡ false = sym on ∙ off in cc)
+  | inr far ↦ sym (others_stay mask rest bit j fits below others far.1) ∙ on
+]

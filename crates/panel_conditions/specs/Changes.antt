@@ -6,6 +6,10 @@ use Rattle.site_types.specs.declared.retained.Retained.{Retained}
 use Rattle.site_types.specs.declared.site.Site.{Site}
 use Rattle.site_types.specs.Done.{Done, AreBy}
 use Rattle.coincidence_rules.specs.declared.finding.Finding.{Finding}
+use Rattle.answer_lanes.specs.declared.finding_group.FindingGroup.{FindingGroup}
+use Rattle.answer_lanes.specs.declared.run.Run.{Run}
+use Rattle.answer_lanes.specs.Points.{finding_at}
+use Rattle.answer_lanes.specs.Runs.{items_of}
 use Rattle.panel_conditions.specs.declared.hold.Hold.{Hold}
 use Rattle.panel_conditions.specs.declared.outside.Outside.{Outside}
 use Rattle.panel_conditions.specs.declared.points.Points.{Points}
@@ -70,6 +74,12 @@ abbrev pub ZonesStaySettled : Zones → Zones → Type 0
 ZonesStaySettled old zones =
     (site : Site) (panel : ℕ) (done : List Done) (taken : List Finding) (tick : ℕ)
     → WatchesZones site panel done taken old.watches.items → Settled tick old → Settled tick zones
+
+-- by zones, the findings of a run are taken after those before
+pub record TakesZoneRun (run : Run FindingGroup) (old zones : Zones) : Type 0 where
+  pub watches : WatchesZonesMore old (items_of finding_at run) zones
+  pub settled : ZonesStaySettled old zones
+  pub moved : zones.moved ≡ old.moved
 
 -- in all that is kept, zones that were settled stay so, whatever findings they tell of
 abbrev pub StaysSettled : Hold → Hold → Type 0

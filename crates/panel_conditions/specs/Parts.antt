@@ -53,16 +53,19 @@ zone_done operation at watch =
       cancelled = last_if (on_watched (λ place. is_cancel place operation) watch.place) at watch.cancelled;
     }
 
-abbrev pub zone_taken : Finding → ZoneWatch → ZoneWatch
-zone_taken finding watch =
+-- a zone takes note of what a finding tells by a bit
+abbrev pub zone_told : ℕ → Finding → ZoneWatch → ZoneWatch
+zone_told bit finding watch =
     record watch {
-      confirmed = stamp_if (has_bit finding.confirmed watch.bit) finding.stamp watch.confirmed;
-      called = stamp_if (has_bit finding.manual watch.bit) finding.stamp watch.called;
-      released = stamp_if (has_bit finding.released watch.bit) finding.stamp watch.released;
-      told =
-          stamp_if (has_bit finding.counted watch.bit && not (has_bit finding.manual watch.bit)) finding.stamp
-          watch.told;
+      confirmed = stamp_if (has_bit finding.confirmed bit) finding.stamp watch.confirmed;
+      called = stamp_if (has_bit finding.manual bit) finding.stamp watch.called;
+      released = stamp_if (has_bit finding.released bit) finding.stamp watch.released;
+      told = stamp_if (has_bit finding.counted bit && not (has_bit finding.manual bit)) finding.stamp watch.told;
     }
+
+-- a zone takes note of what a finding tells of it
+abbrev pub zone_taken : Finding → ZoneWatch → ZoneWatch
+zone_taken finding watch = zone_told watch.bit finding watch
 
 abbrev pub first_shows : ℕ → ZoneWatch → Option ℕ → Bool
 first_shows tick watch None = false
@@ -93,6 +96,32 @@ TellsNoZone group = (group.telling ≡ 0)
 abbrev pub told_by : Finding → ℕ
 told_by finding = bit_or (bit_or (bit_or finding.counted finding.confirmed) finding.manual) finding.released
 
+-- a finding tells of a zone, by its bit, that an answer of a detector counted, confirmed it and released it
+pub record TellsPlainly (bit : ℕ) (finding : Finding) : Type 0 where
+  pub counted : has_bit finding.counted bit ≡ true
+  pub confirmed : has_bit finding.confirmed bit ≡ true
+  pub released : has_bit finding.released bit ≡ true
+  pub manual : has_bit finding.manual bit ≡ false
+
+-- a finding tells of each of its zones that an answer of a detector counted, confirmed it and released it
+pub record IsPlain (finding : Finding) : Type 0 where
+  pub counted : finding.counted ≡ finding.confirmed
+  pub released : finding.released ≡ finding.confirmed
+  pub manual : finding.manual ≡ 0
+
+-- the findings of a group that tell of zones tell this of each of them
+pub record IsPlainGroup (group : FindingGroup) : Type 0 where
+  pub counted : group.counted ≡ group.confirmed
+  pub released : group.released ≡ group.confirmed
+  pub manual : group.manual ≡ 0
+
+-- a finding has the masks of a group
+pub record HasMasksOf (group : FindingGroup) (finding : Finding) : Type 0 where
+  pub counted : finding.counted ≡ group.counted
+  pub confirmed : finding.confirmed ≡ group.confirmed
+  pub manual : finding.manual ≡ group.manual
+  pub released : finding.released ≡ group.released
+
 -- a finding tells nothing but what is shown
 pub record IsShown (finding : Finding) (signs : Signs) : Type 0 where
   pub alarm : bit_or (bit_or finding.counted finding.confirmed) signs.alarm ≡ signs.alarm
@@ -105,9 +134,9 @@ Marks finding before zones =
     (zones.changed ≡ bit_or before.changed (told_by finding))
     ⊎ ((zones.changed ≡ before.changed) × IsShown finding before.signs)
 
--- the zone at one place takes the finding, each other one stays
+-- the zone at one place takes note of what the finding tells by the bit of that number, each other one stays
 abbrev pub zone_taken_at : ℕ → Finding → ℕ → ZoneWatch → ZoneWatch
-zone_taken_at place finding other watch = if place == other then zone_taken finding watch else watch
+zone_taken_at place finding other watch = if place == other then zone_told place finding watch else watch
 
 -- the later of two ticks
 abbrev pub later_tick : Tick → Tick → Tick

@@ -1,6 +1,6 @@
 -- The part that holds stands for the operations done and the turns made.
 use Rattle.std.specs.Prelude.{◌≡◌, ◌≢◌, ◌<◌, ◌≤◌, ◌+◌, ◌-◌, ◌^◌, min, max, ℕ, zero, suc, Bool, true, false, not, List}
-use Rattle.std.specs.Prelude.{[], ◌∷◌, ◌++◌, Option, Some, None, length, map, slice_get, ◌&&◌, nat_lt, if◌then◌else◌}
+use Rattle.std.specs.Prelude.{[], ◌∷◌, ◌++◌, Option, Some, None, length, map, option_map, slice_get, ◌&&◌, nat_lt, if◌then◌else◌}
 use Rattle.tick_units.specs.declared.tick.Tick.{Tick}
 use Rattle.site_types.specs.declared.site.Site.{Site}
 use Rattle.site_types.specs.declared.point.Point.{Point as PointPlan}
@@ -30,7 +30,7 @@ use Rattle.panel_conditions.specs.declared.shown.Shown.{Shown}
 use Rattle.panel_conditions.specs.declared.hold.Hold.{Hold}
 use Rattle.panel_conditions.specs.declared.outside.Outside.{Outside}
 use Rattle.panel_conditions.specs.PointSets.{loop_address, set_without}
-use Rattle.panel_conditions.specs.Parts.{points_at, points_shown, is_of_zone, watch_shows, sign_mask}
+use Rattle.panel_conditions.specs.Parts.{points_at, points_shown, is_of_zone, watch_shows, sign_mask, zone_taken}
 use Rattle.tick_units.specs.LastTicks.{last_at, never_done}
 use Rattle.panel_conditions.specs.Points.{points_where}
 use Rattle.panel_conditions.specs.Turns.{HoldTurn, findings_taken, latest_tick, AreRising}
@@ -172,6 +172,15 @@ pub record WatchesZones (site : Site) (panel : ℕ) (done : List Done) (taken : 
 -- each zone has the bit of its number
 abbrev pub AreNumbered : List ZoneWatch → Type 0
 AreNumbered watches = (k : ℕ) (watch : ZoneWatch) → slice_get watches k ≡ Some watch → watch.bit ≡ k
+
+-- the zones take a finding, each by what it tells of it, and none is marked yet
+pub record ZonesTake (finding : Finding) (before after : Zones) : Type 0 where
+  pub watches : AreNumbered before.watches.items → (k : ℕ)
+      → slice_get after.watches.items k ≡ option_map (zone_taken finding) (slice_get before.watches.items k)
+  pub count : length after.watches.items ≡ length before.watches.items
+  pub changed : after.changed ≡ before.changed
+  pub signs : after.signs ≡ before.signs
+  pub moved : after.moved ≡ before.moved
 
 -- from a tick on, zones of which nothing was told and that aren't in first state show what they showed when it
 -- was drawn last; no operation is later than the latest

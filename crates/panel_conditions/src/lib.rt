@@ -33,6 +33,7 @@ mod shown;
 mod sign;
 mod signs;
 mod told_missing;
+mod told_zones;
 mod zone_watch;
 mod zones;
 

@@ -18,3 +18,12 @@ pub fn next_bit(mask: u32, from: u8) -> u8
         from + rest.trailing_zeros() as u8
     }
 }
+
+/// The lowest bit of a mask that is set.
+pub fn lowest_bit(mask: u32) -> u8
+    requires { 0 < mask }
+    ensures within { result < 32 }
+    ensures set { has_bit mask result ≡ true }
+{
+    mask.trailing_zeros() as u8
+}

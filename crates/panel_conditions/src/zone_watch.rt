@@ -1,8 +1,7 @@
-ghost use Rattle.std.specs.Prelude.{◌≡◌, ◌&&◌, nat_lt, if◌then◌else◌};
-ghost use Rattle.site_types.specs.Bits.{has_bit};
+ghost use Rattle.std.specs.Prelude.{◌≡◌, ◌<◌, ◌&&◌, ℕ, nat_lt, if◌then◌else◌};
 ghost use Rattle.site_types.specs.Done.{is_cancel};
 ghost use Rattle.panel_conditions.specs.Parts.{first_shows, on_watched, raises, stamp_if, zone_done, zone_shows};
-ghost use Rattle.panel_conditions.specs.Parts.{zone_taken};
+ghost use Rattle.panel_conditions.specs.Parts.{TellsPlainly, zone_told};
 
 use crate::sign::Sign;
 use coincidence_rules::Finding;
@@ -51,18 +50,29 @@ impl ZoneWatch {
         }
     }
 
-    /// Takes note of a finding.
-    pub fn take(&mut self, finding: &Finding)
-        ensures { self.new ≡ zone_taken finding.now self.old }
+    /// Takes note of what a finding tells by a bit: that of its number.
+    pub fn take(&mut self, bit: u8, finding: &Finding)
+        requires { bit < 32 }
+        ensures { self.new ≡ zone_told bit finding.now self.old }
     {
-        let manual = has(finding.manual, self.bit);
-        let told = has(finding.counted, self.bit) && !manual;
-        let confirmed = has(finding.confirmed, self.bit);
-        let released = has(finding.released, self.bit);
+        let manual = has_bit_32(finding.manual, bit);
+        let told = has_bit_32(finding.counted, bit) && !manual;
+        let confirmed = has_bit_32(finding.confirmed, bit);
+        let released = has_bit_32(finding.released, bit);
         raise_if(confirmed, finding.stamp, &mut self.confirmed);
         raise_if(manual, finding.stamp, &mut self.called);
         raise_if(released, finding.stamp, &mut self.released);
         raise_if(told, finding.stamp, &mut self.told);
+    }
+
+    /// Takes note of a finding that confirms the zone plainly.
+    pub fn confirm(&mut self, finding: &Finding)
+        ensures { (bit : ℕ) → TellsPlainly bit finding.now
+            → self.new ≡ zone_told bit finding.now self.old }
+    {
+        raise_if(true, finding.stamp, &mut self.confirmed);
+        raise_if(true, finding.stamp, &mut self.released);
+        raise_if(true, finding.stamp, &mut self.told);
     }
 
     /// Takes note of an operation that was done in a tick.
@@ -109,13 +119,6 @@ impl ZoneWatch {
             }
         }
     }
-}
-
-// Whether a mask has a bit; it has none past its end.
-fn has(mask: u32, bit: u8) -> bool
-    ensures { result ≡ has_bit mask bit }
-{
-    bit < 32 && has_bit_32(mask, bit)
 }
 
 // Makes a stamp the latest one, where something was told at it and it is later.

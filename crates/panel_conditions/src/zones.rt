@@ -1,12 +1,13 @@
 ghost use Rattle.std.specs.Prelude.{◌≡◌, ◌-◌, ◌^◌, ◌<◌, ◌≤◌, ℕ, map, length, slice_get, bit_or, nat_lt};
-ghost use Rattle.std.specs.Prelude.{if◌then◌else◌, IfOk, option_copied, option_map, true};
+ghost use Rattle.std.specs.Prelude.{if◌then◌else◌, IfOk, option_copied, option_map};
 ghost use Rattle.coincidence_rules.specs.Places.{numbered};
 ghost use Rattle.answer_lanes.specs.Points.{finding_at};
 ghost use Rattle.answer_lanes.specs.Runs.{HasShortCount, items_of};
 
-use crate::next_bit::next_bit;
+use crate::next_bit::{lowest_bit, next_bit};
 use crate::sign::Sign;
 use crate::signs::Signs;
+use crate::told_zones::{is_plain, is_shown, telling_at, telling_place, told};
 use crate::zone_watch::ZoneWatch;
 use answer_lanes::{FindingGroup, Run};
 use coincidence_rules::Finding;
@@ -31,9 +32,9 @@ pub struct Zones {
 
 impl Zones {
     ghost use Rattle.panel_conditions.specs.Parts.{drawn_mask, later_tick, signs_at, told_by, watch_shows, zone_done};
-    ghost use Rattle.panel_conditions.specs.Parts.{Marks, zone_taken, zone_taken_at};
-    ghost use Rattle.panel_conditions.specs.Changes.{WatchesZonesMore, ZonesStaySettled};
-    ghost use Rattle.panel_conditions.specs.Stands.{AreNumbered, Settled, first_watch, are_first_watches};
+    ghost use Rattle.panel_conditions.specs.Parts.{IsPlain, IsPlainGroup, Marks, TellsPlainly, zone_taken_at};
+    ghost use Rattle.panel_conditions.specs.Changes.{TakesZoneRun, WatchesZonesMore, ZonesStaySettled};
+    ghost use Rattle.panel_conditions.specs.Stands.{Settled, ZonesTake, first_watch, are_first_watches};
 
     /// The zones of a panel, of which nothing was told.
     pub fn new(alloc: Global, site: &Site, panel: u8) -> Result<Zones, NoMemory>
@@ -60,32 +61,84 @@ impl Zones {
         ensures settled { ZonesStaySettled self.old self.new }
         ensures moved { self.new.moved ≡ self.old.moved }
     {
-        if tells_no_zone(&run.first) {
+        if run.first.telling == 0 {
             return;
         }
-        let Some(place) = run.first.first_telling(run.taken, run.count) else {
-            return;
-        };
-        self.take(&telling_at(&run.first, place));
+        if is_plain(&run.first) {
+            self.take_plain_run(run);
+        } else {
+            self.take_mixed_run(run);
+        }
     }
 
-    // Takes note of a finding.
-    fn take(&mut self, finding: &Finding)
-        ensures watches { AreNumbered self.old.watches.items → (k : ℕ)
-            → slice_get self.new.watches.items k ≡ option_map (zone_taken finding.now)
-            (slice_get self.old.watches.items k) }
-        ensures count { length self.new.watches.items ≡ length self.old.watches.items }
-        ensures marks { Marks finding.now self.old self.new }
-        ensures signs { self.new.signs ≡ self.old.signs }
-        ensures moved { self.new.moved ≡ self.old.moved }
+    // Takes note of the findings of a run, where those that tell of zones confirm them plainly.
+    fn take_plain_run(&mut self, run: &Run<FindingGroup>)
+        requires short { HasShortCount run.now }
+        requires some { 0 < run.now.first.telling }
+        requires plain { IsPlainGroup run.now.first }
+        ensures { TakesZoneRun run.now self.old self.new }
     {
-        let told = told(finding);
-        let mut k = next_bit(told, 0);
-        while k < 32 {
-            self.take_at(k, finding);
-            k = next_bit(told, k + 1);
+        if run.first.confirmed == 0 {
+            return;
         }
-        self.mark(finding);
+        let Some(place) = telling_place(run) else {
+            return;
+        };
+        let finding = telling_at(&run.first, place);
+        self.take_plain(&finding);
+        self.mark_plain(&finding);
+    }
+
+    // Takes note of the findings of a run, whatever those that tell of zones tell of them.
+    fn take_mixed_run(&mut self, run: &Run<FindingGroup>)
+        requires short { HasShortCount run.now }
+        requires some { 0 < run.now.first.telling }
+        ensures { TakesZoneRun run.now self.old self.new }
+    {
+        let Some(place) = telling_place(run) else {
+            return;
+        };
+        let finding = telling_at(&run.first, place);
+        self.take_each(&finding);
+        self.mark(&finding);
+    }
+
+    // Takes note of a finding that confirms zones plainly.
+    fn take_plain(&mut self, finding: &Finding)
+        requires { IsPlain finding.now }
+        ensures { ZonesTake finding.now self.old self.new }
+    {
+        let mut left = finding.confirmed;
+        while left != 0 {
+            let k = lowest_bit(left);
+            self.confirm_at(k, finding);
+            left = with_bit_32(left, k, false);
+        }
+    }
+
+    // Takes note of a finding in each zone of which it tells.
+    fn take_each(&mut self, finding: &Finding)
+        ensures { ZonesTake finding.now self.old self.new }
+    {
+        let mut left = told(finding);
+        while left != 0 {
+            let k = lowest_bit(left);
+            self.take_at(k, finding);
+            left = with_bit_32(left, k, false);
+        }
+    }
+
+    // Marks the zones that a finding confirms plainly, where any of them isn't shown both in alarm and released.
+    fn mark_plain(&mut self, finding: &Finding)
+        requires { IsPlain finding.now }
+        ensures marks { Marks finding.now self.old self.new }
+        ensures rest { (self.new.watches ≡ self.old.watches) × (self.new.signs ≡ self.old.signs)
+            × (self.new.moved ≡ self.old.moved) }
+    {
+        let shown = finding.confirmed & self.signs.alarm & self.signs.released;
+        if shown != finding.confirmed {
+            self.changed |= finding.confirmed;
+        }
     }
 
     // Marks the zones of which a finding tells, where it tells anything that isn't shown.
@@ -101,6 +154,7 @@ impl Zones {
 
     // Takes note of a finding that tells of the zone at a place.
     fn take_at(&mut self, k: u8, finding: &Finding)
+        requires { k < 32 }
         ensures watches { (j : ℕ)
             → slice_get self.new.watches.items j ≡ option_map (zone_taken_at k finding.now j)
             (slice_get self.old.watches.items j) }
@@ -111,7 +165,24 @@ impl Zones {
         let place = k as usize;
         if place < self.watches.len() {
             let watch = &mut self.watches[place];
-            watch.take(finding);
+            watch.take(k, finding);
+        }
+    }
+
+    // Takes note of a finding that confirms the zone at a place plainly.
+    fn confirm_at(&mut self, k: u8, finding: &Finding)
+        requires { TellsPlainly k finding.now }
+        ensures watches { (j : ℕ)
+            → slice_get self.new.watches.items j ≡ option_map (zone_taken_at k finding.now j)
+            (slice_get self.old.watches.items j) }
+        ensures count { length self.new.watches.items ≡ length self.old.watches.items }
+        ensures rest { (self.new.changed ≡ self.old.changed) × (self.new.signs ≡ self.old.signs)
+            × (self.new.moved ≡ self.old.moved) }
+    {
+        let place = k as usize;
+        if place < self.watches.len() {
+            let watch = &mut self.watches[place];
+            watch.confirm(finding);
         }
     }
 
@@ -218,50 +289,7 @@ impl Zones {
     }
 }
 
-ghost use Rattle.site_types.specs.Bits.{has_bit};
-ghost use Rattle.panel_conditions.specs.Parts.{IsShown, TellsNoZone, told_by};
 ghost use Rattle.panel_conditions.specs.Stands.{first_watch, within_of, within_rule};
-
-// Whether no finding of a group tells of a zone.
-fn tells_no_zone(group: &FindingGroup) -> bool
-    ensures { result ≡ true → TellsNoZone group.now }
-{
-    group.telling == 0
-        || (group.counted == 0
-            && (group.confirmed == 0 && (group.manual == 0 && group.released == 0)))
-}
-
-// The finding at a place of a group where one tells of zones.
-fn telling_at(group: &FindingGroup, place: u8) -> Finding
-    requires { has_bit group.now.telling place ≡ true }
-    ensures { result ≡ finding_at group.now place }
-{
-    Finding {
-        stamp: group.stamp,
-        point: group.point.saturating_add(place as u16),
-        counted: group.counted,
-        confirmed: group.confirmed,
-        manual: group.manual,
-        released: group.released,
-        missing: group.is_missing(place),
-    }
-}
-
-// Whether a finding tells nothing but what is shown.
-fn is_shown(finding: &Finding, signs: &Signs) -> bool
-    ensures { result ≡ true → IsShown finding.now signs.now }
-{
-    finding.counted | finding.confirmed | signs.alarm == signs.alarm
-        && finding.manual | signs.manual == signs.manual
-        && finding.released | signs.released == signs.released
-}
-
-// The zones of which a finding tells.
-fn told(finding: &Finding) -> u32
-    ensures { result ≡ told_by finding.now }
-{
-    finding.counted | finding.confirmed | finding.manual | finding.released
-}
 
 // The zones to look at after they were drawn at a tick: all, if an operation of that tick or a later one is
 // yet to come in force.
