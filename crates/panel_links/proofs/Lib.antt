@@ -8,3 +8,5 @@ pub mod Chains
 pub mod Downs
 -- panels that are silent
 pub mod Silences
+-- a mask of flags that is made from the last one down
+pub mod Growing

@@ -149,12 +149,11 @@ impl Ring {
         ensures { (panels : ℕ) (calls : List Call) → StandsFor panels calls self.now
             → result ≡ mask_of 8 (λ k. is_silent panels panel calls now.0 limit (k + 1)) }
     {
+        // The mask grows at its lowest bit, so the last panel is looked at first.
         let mut silent = 0;
-        for of in 1..self.panels + 1 {
-            let heard = self.heard(panel, of);
-            if now.0.saturating_sub(heard.0) > limit {
-                silent = with_bit_8(silent, of - 1, true);
-            }
+        for of in (1..self.panels + 1).rev() {
+            let heard = self.kept(panel, of).stamp;
+            silent = 2 * silent + (now.0.saturating_sub(heard.0) > limit) as u8;
         }
         silent
     }
