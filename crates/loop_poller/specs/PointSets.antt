@@ -1,5 +1,5 @@
 -- The sets of the points that are in alarm and of those that are gone.
-use Rattle.std.specs.Prelude.{◌≡◌, ◌*◌, ◌<◌, ◌≤◌, ℕ, Bool, false, true, List, length, slice_index_or}
+use Rattle.std.specs.Prelude.{◌≡◌, ◌+◌, ◌*◌, ◌<◌, ℕ, Bool, false, true, List, length, slice_index_or}
 use Rattle.site_types.specs.declared.point_state.PointState.{PointState}
 use Rattle.site_types.specs.declared.point_state.PointState.TheVariants.{Quiet, Alarm, Gone}
 use Rattle.answer_lanes.specs.Places.{has_place}
@@ -20,7 +20,7 @@ tells_nothing Gone = true
 -- a set has the places of the points that pass a test
 pub record HasPointsTelling (test : PointState → Bool) (states : List PointState) (set : PlaceSet) : Type 0 where
   pub is : (place : ℕ) → place < length states → has_place set place ≡ test (slice_index_or states place Quiet)
-  pub room : length states ≤ 8 * length set.bytes.items
+  pub room : length states + 8 < 8 * length set.bytes.items
 
 -- the points in alarm and those that are gone are in two sets
 pub record AreInSets (states : List PointState) (alarms gone : PlaceSet) : Type 0 where

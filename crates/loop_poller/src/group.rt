@@ -24,6 +24,10 @@ impl Group {
         ensures put { IsWithin self.now states.now
             → answers.new ≡ with_put answers.old (group_answers now.0 self.now states.now) }
     {
+        // A group that begins behind the last point has none.
+        if self.first as usize >= states.len() {
+            return;
+        }
         answers.put_run(Run {
             first: AnswerGroup {
                 stamp: now,

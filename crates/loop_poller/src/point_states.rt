@@ -62,20 +62,29 @@ impl PointStates {
         self.states[place as usize]
     }
 
+    /// How many points there are.
+    pub fn len(&self) -> usize
+        ensures { result ≡ length self.now }
+    {
+        self.states.len()
+    }
+
     /// Which of eight points are in alarm, from the one at this place on.
     pub fn alarms_from(&self, first: u16) -> u8
+        requires { first < length self.now }
         ensures { (k : ℕ) → k < 8 → first + k < length self.now
             → has_bit result k ≡ tells_alarm (slice_index_or self.now (first + k) Quiet) }
     {
-        self.alarms.eight_from(first as usize)
+        self.alarms.eight_within(first as usize)
     }
 
     /// Which of eight points are gone, from the one at this place on.
     pub fn gone_from(&self, first: u16) -> u8
+        requires { first < length self.now }
         ensures { (k : ℕ) → k < 8 → first + k < length self.now
             → has_bit result k ≡ tells_nothing (slice_index_or self.now (first + k) Quiet) }
     {
-        self.gone.eight_from(first as usize)
+        self.gone.eight_within(first as usize)
     }
 }
 
