@@ -187,7 +187,7 @@ new_nowhere look j new old = go (has_bit look j)
     go true = refl
     go false = refl
 
--- one more place has it
+-- one more place has something new
 pub new_more : {X : Type 0} (k left rest look j : ℕ) (new old was after : X) → has_bit left k ≡ true → has_bit look k ≡ true
     → has_bit rest k ≡ false → (j ≢ k → has_bit rest j ≡ has_bit left j) → was ≡ new_but left look j new old → (k ≡ j → after ≡ new)
     → (j ≢ k → after ≡ was) → after ≡ new_but rest look j new old
@@ -199,7 +199,7 @@ new_more k left rest look j new old was after on looked off others is here elsew
   | inr far ↦ elsewhere far.1 ∙ is ∙ sym (ap (λ b. if b then old else (if has_bit look j then new else old)) (others far.1))
 ]
 
--- all places to look at have it
+-- all places to look at have something new
 pub new_everywhere : {X : Type 0} (left look j : ℕ) (new old : X) → left ≡ 0 → new_but left look j new old ≡ (if has_bit look j then new else old)
 new_everywhere left look j new old none =
     ap (λ b. if b then old else (if has_bit look j then new else old)) (ap (λ m. has_bit m j) none ∙ has_bit-zero j)
@@ -208,7 +208,7 @@ new_everywhere left look j new old none =
 abbrev pub taken_but : ℕ → ℕ → Finding → Option ZoneWatch → Option ZoneWatch
 taken_but left j f o = if has_bit left j then o else option_map (zone_taken f) o
 
--- none took it yet
+-- before any zone took a finding
 pub taken_not_yet : (f : Finding) (j : ℕ) (o : Option ZoneWatch) → ((watch : ZoneWatch) → o ≡ Some watch → watch.bit ≡ j)
     → o ≡ taken_but (told_by f) j f o
 taken_not_yet f j o numbered = go (has_bit (told_by f) j) refl o numbered
@@ -231,7 +231,7 @@ at_place k j f (Some watch) e same numbered =
     ap (λ b. Some (if b then zone_told k f watch else watch)) e
     ∙ ap (λ n. Some (zone_told n f watch)) (same ∙ sym (numbered watch refl))
 
--- one zone more took it
+-- one zone more took a finding
 pub taken_more : (k left rest : ℕ) (f : Finding) (j : ℕ) (first o after : Option ZoneWatch)
     → ((watch : ZoneWatch) → first ≡ Some watch → watch.bit ≡ j) → has_bit left k ≡ true → has_bit rest k ≡ false
     → (j ≢ k → has_bit rest j ≡ has_bit left j) → o ≡ taken_but left j f first → after ≡ option_map (zone_taken_at k f j) o
@@ -247,7 +247,7 @@ taken_more k left rest f j first o after numbered on off others was is = elim (e
       ∙ sym (ap (λ b. if b then first else option_map (zone_taken f) first) (others (λ e. far.1 (sym e))))
 ]
 
--- all took it
+-- all zones took a finding
 pub taken_by_all : (f : Finding) (left j : ℕ) (o : Option ZoneWatch) → left ≡ 0 → taken_but left j f o ≡ option_map (zone_taken f) o
 taken_by_all f left j o none =
     ap (λ b. if b then o else option_map (zone_taken f) o) (ap (λ m. has_bit m j) none ∙ has_bit-zero j)

@@ -23,7 +23,7 @@ run_of_none run zones none = record {
   moved = refl;
 }
 
--- or whose group tells of no zone
+-- a run whose group tells of no zone
 pub run_of_nothing : (run : Run FindingGroup) (zones : Zones) → TellsNoZone run.first → TakesZoneRun run zones zones
 run_of_nothing run zones none = record {
   watches = λ site panel done taken h. taken_by_nothing site panel done taken run zones.watches.items none h;

@@ -109,7 +109,8 @@ pub record IsPlain (finding : Finding) : Type 0 where
   pub released : finding.released ≡ finding.confirmed
   pub manual : finding.manual ≡ 0
 
--- the findings of a group that tell of zones tell this of each of them
+-- the findings of a group that tell of zones tell of each of these that an answer of a detector counted, confirmed
+-- it and released it
 pub record IsPlainGroup (group : FindingGroup) : Type 0 where
   pub counted : group.counted ≡ group.confirmed
   pub released : group.released ≡ group.confirmed
