@@ -7,7 +7,8 @@ use Rattle.site_types.proofs.Masks.{has_bit-and, has_bit-or, has_bit-zero, same_
 use Rattle.coincidence_rules.specs.declared.finding.Finding.{Finding}
 use Rattle.answer_lanes.specs.declared.finding_group.FindingGroup.{FindingGroup}
 use Rattle.panel_conditions.specs.declared.signs.Signs.{Signs}
-use Rattle.panel_conditions.specs.Parts.{HasMasksOf, IsPlain, IsPlainGroup, IsShown, TellsNoZone, TellsPlainly, told_by}
+use Rattle.panel_conditions.proofs.Runs.{TellsNoZone}
+use Rattle.panel_conditions.specs.Parts.{HasMasksOf, IsPlain, IsPlainGroup, IsShown, TellsPlainly, told_by}
 
 -- the zones of which a plain finding tells are those that it confirms
 pub plain_told : (f : Finding) → IsPlain f → told_by f ≡ f.confirmed
