@@ -1,5 +1,5 @@
 -- What zones show stays as it was drawn, where nothing was told and no first state lasts.
-use Rattle.std.proofs.Common.{◌≡◌, ◌≢◌, ◌⊎◌, inl, inr, ℕ, ◌+◌, ◌-◌, ◌<◌, ◌≤◌, ◌^◌, Bool, true, false, not, List, map}
+use Rattle.std.proofs.Common.{◌≡◌, ◌≢◌, ◌⊎◌, inl, inr, ℕ, ◌-◌, ◌<◌, ◌≤◌, ◌^◌, Bool, true, false, not, List, map}
 use Rattle.std.proofs.Common.{Option, Some, None, option_map, slice_get, ◌==◌, ◌&&◌, ◌||◌, nat_lt, nat_le}
 use Rattle.std.proofs.Common.{if◌then◌else◌, bit_or, refl, sym, ◌∙◌, ap, subst, arith}
 use Rattle.std.specs.Option.{is_some}
@@ -176,53 +176,39 @@ untold f watch h =
     (sym (told_bits f watch.bit) ∙ h) in
     rw (off.0, off.1, off.2, off.3) refl
 
--- what stands at a place, where the places of a mask before one have something new
-abbrev pub up_to : {X : Type 0} → ℕ → ℕ → ℕ → X → X → X
-up_to k look j new old = if nat_lt j k && has_bit look j then new else old
+-- what stands at a place, where those of the places to look at that are left are yet to have something new
+abbrev pub new_but : {X : Type 0} → ℕ → ℕ → ℕ → X → X → X
+new_but left look j new old = if has_bit left j then old else (if has_bit look j then new else old)
 
-pub up_none : {X : Type 0} (k look j : ℕ) (new old : X) → ((i : ℕ) → 0 ≤ i → i < k → has_bit look i ≡ false) → old ≡ up_to k look j new old
-up_none k look j new old none = elim (lt_tells j k) [
-  | inl less ↦ sym (ap (λ b. if b && has_bit look j then new else old) less.0 ∙ ap (λ b. if b then new else old) (none j (omega arith) less.1))
-  | inr other ↦ sym (ap (λ b. if b && has_bit look j then new else old) other.0)
-]
+pub new_nowhere : {X : Type 0} (look j : ℕ) (new old : X) → old ≡ new_but look look j new old
+new_nowhere look j new old = go (has_bit look j)
+  where
+    go : (b : Bool) → old ≡ (if b then old else (if b then new else old))
+    go true = refl
+    go false = refl
 
-up_beyond : {X : Type 0} (k next look j : ℕ) (new old : X) → ((i : ℕ) → k + 1 ≤ i → i < next → has_bit look i ≡ false) → k ≤ j → k ≢ j
-    → old ≡ up_to next look j new old
-up_beyond k next look j new old none le apart = elim (lt_tells j next) [
-  | inl within ↦
-      sym (ap (λ b. if b && has_bit look j then new else old) within.0 ∙ ap (λ b. if b then new else old)
-      (none j (omega (arith, le, apart)) within.1))
-  | inr past ↦ sym (ap (λ b. if b && has_bit look j then new else old) past.0)
-]
-
-up_other : {X : Type 0} (k next look j : ℕ) (new old : X) → k < next → ((i : ℕ) → k + 1 ≤ i → i < next → has_bit look i ≡ false) → k ≢ j
-    → up_to k look j new old ≡ up_to next look j new old
-up_other k next look j new old less none apart = elim (lt_tells j k) [
-  | inl before ↦ (let b = before.1 in ap (λ c. if c && has_bit look j then new else old) (before.0 ∙ sym (lt_true j next (omega (arith, b, less)))))
-  | inr after ↦ ap (λ c. if c && has_bit look j then new else old) after.0 ∙ up_beyond k next look j new old none after.1 apart
-]
-
--- one more place has it
-pub up_more : {X : Type 0} (k next look j : ℕ) (new old was after : X) → k < next → has_bit look k ≡ true
-    → ((i : ℕ) → k + 1 ≤ i → i < next → has_bit look i ≡ false) →
-    was ≡ up_to k look j new old → (k ≡ j → after ≡ new) → (k ≢ j → after ≡ was) → after ≡ up_to next look j new old
-up_more k next look j new old was after less on none is here elsewhere = elim (eqb_tells k j) [
+-- one more place has something new
+pub new_more : {X : Type 0} (k left rest look j : ℕ) (new old was after : X) → has_bit left k ≡ true → has_bit look k ≡ true
+    → has_bit rest k ≡ false → (j ≢ k → has_bit rest j ≡ has_bit left j) → was ≡ new_but left look j new old → (k ≡ j → after ≡ new)
+    → (j ≢ k → after ≡ was) → after ≡ new_but rest look j new old
+new_more k left rest look j new old was after on looked off others is here elsewhere = elim (eqb_tells j k) [
   | inl same ↦
-      (let e = same.1 in
-      here e ∙ sym (ap (λ b. if b && has_bit look j then new else old) (lt_true j next (omega (arith, e, less))) ∙ ap (λ b. if b then new else old)
-      (ap (has_bit look) (sym e) ∙ on)))
-  | inr far ↦ elsewhere far.1 ∙ is ∙ up_other k next look j new old less none far.1
+      (let e = sym same.1 in
+      here e ∙ sym (ap (λ b. if b then old else (if has_bit look j then new else old)) (ap (has_bit rest) (sym e) ∙ off)
+      ∙ ap (λ b. if b then new else old) (ap (has_bit look) (sym e) ∙ looked)))
+  | inr far ↦ elsewhere far.1 ∙ is ∙ sym (ap (λ b. if b then old else (if has_bit look j then new else old)) (others far.1))
 ]
 
--- all places of the mask have it
-pub up_all : {X : Type 0} (k look j : ℕ) (new old : X) → j < k → up_to k look j new old ≡ (if has_bit look j then new else old)
-up_all k look j new old less = ap (λ b. if b && has_bit look j then new else old) (lt_true j k less)
+-- all places to look at have something new
+pub new_everywhere : {X : Type 0} (left look j : ℕ) (new old : X) → left ≡ 0 → new_but left look j new old ≡ (if has_bit look j then new else old)
+new_everywhere left look j new old none =
+    ap (λ b. if b then old else (if has_bit look j then new else old)) (ap (λ m. has_bit m j) none ∙ has_bit-zero j)
 
 -- what stands at a place, where the zones of a mask are yet to take a finding
 abbrev pub taken_but : ℕ → ℕ → Finding → Option ZoneWatch → Option ZoneWatch
 taken_but left j f o = if has_bit left j then o else option_map (zone_taken f) o
 
--- none took it yet
+-- before any zone took a finding
 pub taken_not_yet : (f : Finding) (j : ℕ) (o : Option ZoneWatch) → ((watch : ZoneWatch) → o ≡ Some watch → watch.bit ≡ j)
     → o ≡ taken_but (told_by f) j f o
 taken_not_yet f j o numbered = go (has_bit (told_by f) j) refl o numbered
@@ -245,7 +231,7 @@ at_place k j f (Some watch) e same numbered =
     ap (λ b. Some (if b then zone_told k f watch else watch)) e
     ∙ ap (λ n. Some (zone_told n f watch)) (same ∙ sym (numbered watch refl))
 
--- one zone more took it
+-- one zone more took a finding
 pub taken_more : (k left rest : ℕ) (f : Finding) (j : ℕ) (first o after : Option ZoneWatch)
     → ((watch : ZoneWatch) → first ≡ Some watch → watch.bit ≡ j) → has_bit left k ≡ true → has_bit rest k ≡ false
     → (j ≢ k → has_bit rest j ≡ has_bit left j) → o ≡ taken_but left j f first → after ≡ option_map (zone_taken_at k f j) o
@@ -261,7 +247,7 @@ taken_more k left rest f j first o after numbered on off others was is = elim (e
       ∙ sym (ap (λ b. if b then first else option_map (zone_taken f) first) (others (λ e. far.1 (sym e))))
 ]
 
--- all took it
+-- all zones took a finding
 pub taken_by_all : (f : Finding) (left j : ℕ) (o : Option ZoneWatch) → left ≡ 0 → taken_but left j f o ≡ option_map (zone_taken f) o
 taken_by_all f left j o none =
     ap (λ b. if b then o else option_map (zone_taken f) o) (ap (λ m. has_bit m j) none ∙ has_bit-zero j)

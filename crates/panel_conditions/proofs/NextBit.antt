@@ -1,4 +1,4 @@
--- The first bit that is set from a bit on.
+-- The first bit that is set from a bit on, and masks of which a bit is cleared.
 use Rattle.std.proofs.Common.{◌≡◌, ◌≢◌, ◌⊎◌, inl, inr, ℕ, ◌+◌, ◌-◌, ◌/◌, ◌%◌, ◌<◌, ◌≤◌, ◌^◌, true, false, ◌==◌, nat_lt, sym, ◌∙◌, ap, subst, arith}
 use Rattle.std.specs.Int.{w32, bit_at, trailing_zeros}
 use Rattle.std.proofs.lemmas.Nat.{and_le_l, shr-shr, shr_below, shr_le}
@@ -63,7 +63,7 @@ cleared_smaller mask bit rest is was cleared =
     let apart : rest ≢ mask = λ e. (let at = ap (λ n. has_bit n bit) e in cc) in
     omega (arith, least, apart)
 
--- all other bits stay, those past the end of the mask too
+-- where one bit of a mask was cleared all others stay, those past its end too
 pub others_stay : (mask rest bit j : ℕ) → mask < 2 ^ 32 → rest < 2 ^ 32
     → ((k : ℕ) → k < 32 → k ≢ bit → has_bit rest k ≡ has_bit mask k) → j ≢ bit → has_bit rest j ≡ has_bit mask j
 others_stay mask rest bit j fits below others apart = elim (lt_tells j 32) [
@@ -71,7 +71,7 @@ others_stay mask rest bit j fits below others apart = elim (lt_tells j 32) [
   | inr past ↦ has_bit-above 32 rest j below past.1 ∙ sym (has_bit-above 32 mask j fits past.1)
 ]
 
--- no bit is new
+-- where one bit of a mask was cleared no bit is new
 pub fewer_bits : (mask rest bit : ℕ) → mask < 2 ^ 32 → rest < 2 ^ 32 → ((k : ℕ) → k < 32 → k ≢ bit → has_bit rest k ≡ has_bit mask k)
     → has_bit rest bit ≡ false → (j : ℕ) → has_bit rest j ≡ true → has_bit mask j ≡ true
 fewer_bits mask rest bit fits below others cleared j on = elim (eqb_tells j bit) [

@@ -7,9 +7,10 @@ use Rattle.site_types.proofs.Masks.{has_bit-and, has_bit-or, has_bit-zero, same_
 use Rattle.coincidence_rules.specs.declared.finding.Finding.{Finding}
 use Rattle.answer_lanes.specs.declared.finding_group.FindingGroup.{FindingGroup}
 use Rattle.panel_conditions.specs.declared.signs.Signs.{Signs}
-use Rattle.panel_conditions.specs.Parts.{HasMasksOf, IsPlain, IsPlainGroup, IsShown, TellsNoZone, TellsPlainly, told_by}
+use Rattle.panel_conditions.proofs.Runs.{TellsNoZone}
+use Rattle.panel_conditions.specs.Parts.{HasMasksOf, IsPlain, IsPlainGroup, IsShown, TellsPlainly, told_by}
 
--- the zones of which it tells are those that it confirms
+-- the zones of which a plain finding tells are those that it confirms
 pub plain_told : (f : Finding) → IsPlain f → told_by f ≡ f.confirmed
 plain_told f plain =
     let c = f.confirmed in
@@ -33,7 +34,7 @@ in_both true true true h = (refl, refl)
 in_both true true false h = absurd (cc)
 in_both true false r h = absurd (cc)
 
--- it tells nothing but what is shown, where each of its zones is shown in alarm and released
+-- a plain finding tells nothing but what is shown, where each of its zones is shown in alarm and released
 pub plain_shown : (f : Finding) (signs : Signs) → IsPlain f → f.confirmed < 2 ^ 32 → signs.alarm < 2 ^ 32 → signs.released < 2 ^ 32
     → bit_and (bit_and f.confirmed signs.alarm) signs.released ≡ f.confirmed → IsShown f signs
 plain_shown f signs plain below alarm released is = record {
@@ -63,6 +64,6 @@ plain_of group f plain masks = record {
   manual = masks.manual ∙ plain.manual;
 }
 
--- it tells of no zone where it confirms none
+-- a plain group tells of no zone where it confirms none
 pub plain_none : (group : FindingGroup) → IsPlainGroup group → group.confirmed ≡ 0 → TellsNoZone group
 plain_none group plain none = inr (plain.counted ∙ none, none, plain.manual, plain.released ∙ none)

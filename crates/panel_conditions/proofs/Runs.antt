@@ -1,5 +1,5 @@
 -- What is taken of the findings of a group, and of several runs.
-use Rattle.std.proofs.Common.{◌≡◌, ◌∙◌, ◌++◌, ◌∷◌, ◌+◌, ◌-◌, ◌<◌, ◌≤◌, ◌&&◌, inl, inr, [], Bool, List, Some, not}
+use Rattle.std.proofs.Common.{◌≡◌, ◌∙◌, ◌++◌, ◌∷◌, ◌+◌, ◌-◌, ◌<◌, ◌≤◌, ◌&&◌, ◌⊎◌, inl, inr, [], Bool, List, Some, not}
 use Rattle.std.proofs.Common.{true, false, length, map, max, slice_get, take, zero, suc, ℕ, if◌then◌else◌, get_or}
 use Rattle.std.proofs.Common.{refl, sym, ap, subst, arith, append_assoc, append-nil}
 use Rattle.std.specs.List.{range_with_len}
@@ -18,7 +18,6 @@ use Rattle.answer_lanes.specs.Runs.{all_items, items_of}
 use Rattle.answer_lanes.proofs.Moving.{items_more, range_parts}
 use Rattle.panel_conditions.specs.declared.points.Points.{Points}
 use Rattle.panel_conditions.specs.declared.zone_watch.ZoneWatch.{ZoneWatch}
-use Rattle.panel_conditions.specs.Parts.{TellsNoZone}
 use Rattle.panel_conditions.specs.Told.{AreTold}
 use Rattle.panel_conditions.specs.Stands.{WatchesPoints, WatchesZone, WatchesZones, latest_stamp}
 use Rattle.panel_conditions.proofs.Latest.{latest-append}
@@ -198,6 +197,11 @@ pub taken_by_none : (site : Site) (panel : ℕ) (done : List Done) (taken : List
 taken_by_none site panel done taken run watches none h =
     zones_as site panel done taken [] (items_of finding_at run) watches (same_as_none run.first run.taken run.count none)
     (subst (λ l. WatchesZones site panel done l watches) (sym (append-nil taken)) h)
+
+-- no finding of a group tells of a zone
+abbrev pub TellsNoZone : FindingGroup → Type 0
+TellsNoZone group = (group.telling ≡ 0)
+    ⊎ ((group.counted ≡ 0) × (group.confirmed ≡ 0) × (group.manual ≡ 0) × (group.released ≡ 0))
 
 -- or by none where its group tells of no zone
 pub taken_by_nothing : (site : Site) (panel : ℕ) (done : List Done) (taken : List Finding) (run : Run FindingGroup) (watches : List ZoneWatch)

@@ -7,11 +7,11 @@ use Rattle.answer_lanes.specs.Runs.{items_of}
 use Rattle.coincidence_rules.specs.declared.finding.Finding.{Finding}
 use Rattle.site_types.specs.Bits.{has_bit}
 use Rattle.panel_conditions.specs.declared.zones.Zones.{Zones}
-use Rattle.panel_conditions.specs.Parts.{IsShown, Marks, TellsNoZone, told_by}
+use Rattle.panel_conditions.specs.Parts.{IsShown, Marks, told_by}
 use Rattle.panel_conditions.specs.Stands.{WatchesZones, ZonesTake}
 use Rattle.panel_conditions.specs.Changes.{TakesZoneRun}
 use Rattle.panel_conditions.proofs.AlreadyShown.{settled_taken}
-use Rattle.panel_conditions.proofs.Runs.{taken_by_none, taken_by_nothing, taken_by_one}
+use Rattle.panel_conditions.proofs.Runs.{TellsNoZone, taken_by_none, taken_by_nothing, taken_by_one}
 use Rattle.panel_conditions.proofs.Watched.{are_numbered, zones_more}
 
 -- a run of which none tells
@@ -23,7 +23,7 @@ run_of_none run zones none = record {
   moved = refl;
 }
 
--- or whose group tells of no zone
+-- a run whose group tells of no zone
 pub run_of_nothing : (run : Run FindingGroup) (zones : Zones) → TellsNoZone run.first → TakesZoneRun run zones zones
 run_of_nothing run zones none = record {
   watches = λ site panel done taken h. taken_by_nothing site panel done taken run zones.watches.items none h;

@@ -87,11 +87,6 @@ abbrev pub watch_shows : Sign → ℕ → Option ZoneWatch → Bool
 watch_shows sign tick None = false
 watch_shows sign tick (Some watch) = zone_shows sign tick watch
 
--- no finding of a group tells of a zone
-abbrev pub TellsNoZone : FindingGroup → Type 0
-TellsNoZone group = (group.telling ≡ 0)
-    ⊎ ((group.counted ≡ 0) × (group.confirmed ≡ 0) × (group.manual ≡ 0) × (group.released ≡ 0))
-
 -- the zones of which a finding tells
 abbrev pub told_by : Finding → ℕ
 told_by finding = bit_or (bit_or (bit_or finding.counted finding.confirmed) finding.manual) finding.released
@@ -109,7 +104,8 @@ pub record IsPlain (finding : Finding) : Type 0 where
   pub released : finding.released ≡ finding.confirmed
   pub manual : finding.manual ≡ 0
 
--- the findings of a group that tell of zones tell this of each of them
+-- the findings of a group that tell of zones tell of each of these that an answer of a detector counted, confirmed
+-- it and released it
 pub record IsPlainGroup (group : FindingGroup) : Type 0 where
   pub counted : group.counted ≡ group.confirmed
   pub released : group.released ≡ group.confirmed

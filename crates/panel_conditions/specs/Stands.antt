@@ -1,6 +1,7 @@
 -- The part that holds stands for the operations done and the turns made.
 use Rattle.std.specs.Prelude.{◌≡◌, ◌≢◌, ◌<◌, ◌≤◌, ◌+◌, ◌-◌, ◌^◌, min, max, ℕ, zero, suc, Bool, true, false, not, List}
-use Rattle.std.specs.Prelude.{[], ◌∷◌, ◌++◌, Option, Some, None, length, map, option_map, slice_get, ◌&&◌, nat_lt, if◌then◌else◌}
+use Rattle.std.specs.Prelude.{[], ◌∷◌, ◌++◌, Option, Some, None, length, map, slice_get, ◌&&◌, nat_lt, if◌then◌else◌}
+use Rattle.std.specs.Prelude.{option_map}
 use Rattle.tick_units.specs.declared.tick.Tick.{Tick}
 use Rattle.site_types.specs.declared.site.Site.{Site}
 use Rattle.site_types.specs.declared.point.Point.{Point as PointPlan}

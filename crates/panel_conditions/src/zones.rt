@@ -4,7 +4,7 @@ ghost use Rattle.coincidence_rules.specs.Places.{numbered};
 ghost use Rattle.answer_lanes.specs.Points.{finding_at};
 ghost use Rattle.answer_lanes.specs.Runs.{HasShortCount, items_of};
 
-use crate::next_bit::{lowest_bit, next_bit};
+use crate::next_bit::lowest_bit;
 use crate::sign::Sign;
 use crate::signs::Signs;
 use crate::told_zones::{is_plain, is_shown, telling_at, telling_place, told};
@@ -270,10 +270,11 @@ impl Zones {
         ensures { result ≡ drawn_mask sign now.0 self.now.watches.items look before }
     {
         let mut mask = before;
-        let mut k = next_bit(look, 0);
-        while k < 32 {
+        let mut left = look;
+        while left != 0 {
+            let k = lowest_bit(left);
             mask = with_bit_32(mask, k, self.shows(k as usize, sign, now));
-            k = next_bit(look, k + 1);
+            left = with_bit_32(left, k, false);
         }
         mask
     }
