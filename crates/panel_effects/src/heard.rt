@@ -47,16 +47,15 @@ pub(crate) fn are_heard(facts: &Facts, reach: u8, ring: &Ring, panels: u8, panel
     if has_zones_after(facts, reach, panels) {
         return false;
     }
+    // The mask grows at its lowest bit, so the last panel is looked at first.
     let mut faults = 0;
-    for source in 1..panels + 1 {
+    for source in (1..panels + 1).rev() {
         let word = ring.word(panel, source);
         let place = source as usize - 1;
         if facts.zones[place] != word.released || facts.manual[place] != word.manual {
             return false;
         }
-        if word.fault {
-            faults = with_bit_8(faults, source - 1, true);
-        }
+        faults = 2 * faults + word.fault as u8;
     }
     facts.faults == faults
 }
