@@ -35,29 +35,8 @@ impl Decide {
     }
 
     // Puts the findings of the first runs, as long as no answer of a run changes anything of what is kept, and answers
-    // the runs behind them.
+    // the runs behind them. This loop stands apart from the slow ways, so that it need not share registers with them.
     fn pass_steady<'a>(
-        &self,
-        runs: &'a [Run<AnswerGroup>],
-        findings: &mut Lane<FindingGroup>,
-    ) -> &'a [Run<AnswerGroup>]
-        requires { CanTakeRuns self.now runs.now findings.old }
-        ensures { TakesFirstRuns self.now runs.now result.now findings.old self.now findings.new }
-    {
-        let mut left = self.pass_plain(runs, findings);
-        while let [run, rest @ ..] = left {
-            if !self.passes_going_on(run, findings) {
-                return left;
-            }
-            left = self.pass_plain(rest, findings);
-        }
-        left
-    }
-
-    // Puts the findings of the first runs, as long as each answer of a run leaves what is kept of its point as it is,
-    // and answers the runs behind them. This loop stands apart from all other ways, so that it need not share registers
-    // with them.
-    fn pass_plain<'a>(
         &self,
         runs: &'a [Run<AnswerGroup>],
         findings: &mut Lane<FindingGroup>,
@@ -67,7 +46,7 @@ impl Decide {
     {
         let mut left = runs;
         while let [run, rest @ ..] = left {
-            if !self.passes_plain(run, findings) {
+            if !self.passes(run, findings) {
                 return left;
             }
             left = rest;
@@ -75,9 +54,9 @@ impl Decide {
         left
     }
 
-    // Puts the findings of a run within a group of eight in one step, where each answer leaves what is kept of its
-    // point as it is. Tells whether it is such a run, and puts nothing for any other one.
-    fn passes_plain(&self, run: &Run<AnswerGroup>, findings: &mut Lane<FindingGroup>) -> bool
+    // Puts the findings of a run within a group of eight whose answers change nothing of what is kept: in one step, or
+    // one for each zone. Tells whether it is such a run, and leaves any other one as it is.
+    fn passes(&self, run: &Run<AnswerGroup>, findings: &mut Lane<FindingGroup>) -> bool
         requires { CanTakeAnswerRun self.now run.now findings.old }
         ensures passed { result ≡ true
             → TakesAnswerRun self.now run.now findings.old self.now findings.new }
@@ -95,22 +74,7 @@ impl Decide {
             });
             return true;
         }
-        false
-    }
-
-    // Puts the findings of a run within a group of eight in one step for each zone, where all that may change what is
-    // kept of their points are alarms that go on. Tells whether it is such a run, and puts nothing for any other one.
-    fn passes_going_on(&self, run: &Run<AnswerGroup>, findings: &mut Lane<FindingGroup>) -> bool
-        requires { CanTakeAnswerRun self.now run.now findings.old }
-        ensures passed { result ≡ true
-            → TakesAnswerRun self.now run.now findings.old self.now findings.new }
-        ensures other { result ≡ false → findings.new ≡ findings.old }
-    {
-        if !is_within_eight(run) {
-            return false;
-        }
-        let changing = self.changing_bits(run);
-        if changing == 0 || !self.all_go_on(run, changing) {
+        if !self.all_go_on(run, changing) {
             return false;
         }
         self.tell_going_on(run, changing, findings);

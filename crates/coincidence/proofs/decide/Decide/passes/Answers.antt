@@ -1,5 +1,5 @@
 use Rattle.coincidence.proofs.Passed.{still_run}
-use Rattle.coincidence.proofs.decide.Decide.passes_plain.Goals as goal
+use Rattle.coincidence.proofs.decide.Decide.passes.Goals as goal
 
 pub returns-then-changing-eq0-clause-passed : goal.returns-then-changing-eq0-clause-passed
 returns-then-changing-eq0-clause-passed c is =

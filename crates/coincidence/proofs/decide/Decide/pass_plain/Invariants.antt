@@ -1,9 +1,0 @@
-use Rattle.std.proofs.Common.{length}
-use Rattle.coincidence.specs.Changes.{TakesFirstRuns}
-use Rattle.coincidence.proofs.decide.Decide.pass_plain.Given as goal
-
-abbrev pub invariant-loop-left : goal.invariant-loop-left
-invariant-loop-left l = TakesFirstRuns l.self l.runs l.left l.fn.findings l.self l.findings
-
-abbrev pub decreases-loop-left : goal.decreases-loop-left
-decreases-loop-left l = length l.left
