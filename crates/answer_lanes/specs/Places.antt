@@ -8,8 +8,8 @@ abbrev pub has_place : PlaceSet → ℕ → Bool
 has_place set place = has_bit (slice_index set.bytes.items (place / 8)) (place % 8)
 
 -- a place lies so far before the end of a set that the eight places from it on are places of the set
-abbrev pub IsWithin : ℕ → PlaceSet → Type 0
-IsWithin place set = place + 8 < 8 * length set.bytes.items
+abbrev pub HasEightFrom : ℕ → PlaceSet → Type 0
+HasEightFrom place set = place + 8 < 8 * length set.bytes.items
 
 -- a set has all of the first places, or none of them
 pub record HasFirst (count : ℕ) (all : Bool) (set : PlaceSet) : Type 0 where

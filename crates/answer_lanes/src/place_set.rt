@@ -12,7 +12,7 @@ pub struct PlaceSet {
 }
 
 impl PlaceSet {
-    ghost use Rattle.answer_lanes.specs.Places.{AreEight, HasFirst, IsCleared, IsWithin, SetsPlace};
+    ghost use Rattle.answer_lanes.specs.Places.{AreEight, HasEightFrom, HasFirst, IsCleared, SetsPlace};
 
     /// A set that has all of the first places, so many, or none of them.
     pub fn first(alloc: Global, count: usize, all: bool) -> Result<PlaceSet, NoMemory>
@@ -43,7 +43,7 @@ impl PlaceSet {
 
     /// Which of the eight places from one on it has, a bit for each, where that one is a place of the set's.
     pub fn eight_within(&self, first: usize) -> u8
-        requires { IsWithin first self.now }
+        requires { HasEightFrom first self.now }
         ensures { AreEight self.now first result }
     {
         let byte = first / 8;

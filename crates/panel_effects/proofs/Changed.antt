@@ -1,5 +1,5 @@
 -- The markers that depend on a changed bit of masks are those that depend on a changed fact, so there are as many.
-use Rattle.std.proofs.Common.{◌≡◌, ℕ, Bool, true, List, Option, Some, None, slice_get, refl, sym, ◌∙◌, ap, subst}
+use Rattle.std.proofs.Common.{◌≡◌, ℕ, Bool, Option, Some, None, slice_get, refl, sym, ◌∙◌, ap, subst}
 use Rattle.std.specs.Prelude.{All}
 use Rattle.std.specs.List.{list_any}
 use Rattle.site_types.specs.declared.combine.Combine.TheVariants.{Any}
@@ -17,7 +17,7 @@ use Rattle.cause_effect.proofs.Truths.{met_same}
 use Rattle.panel_rules.specs.Markers.{Facts, hand_facts}
 use Rattle.panel_bridges.specs.FactMasks.{AreFacts}
 use Rattle.panel_effects.specs.Masks.{AreMasksOf, hand_masks}
-use Rattle.panel_effects.specs.ChangedFacts.{DependsOnChangedFact, at_once, by_marker, RoseByBoth, RoseByFacts, RoseByMasks, has_changed_fact, is_changed_fact}
+use Rattle.panel_effects.specs.ChangedFacts.{DependsOnChangedFact, at_once, by_marker, RoseByFacts, RoseByMasks, has_changed_fact, is_changed_fact}
 use Rattle.panel_effects.proofs.FactsAsMasks.{equal_hands, facts_are, hand_masks_are}
 
 differ_same : (a b c d : Bool) → a ≡ c → b ≡ d → differ a b ≡ differ c d

@@ -1,5 +1,5 @@
 -- The facts of the latest turn of Effect: which moments leave them, and what the rules make of them.
-use Rattle.std.proofs.Common.{◌≡◌, ℕ, List, [], ◌∷◌, inl, inr, Bool, true, false, if◌then◌else◌, refl, sym, ap, subst}
+use Rattle.std.proofs.Common.{◌≡◌, ℕ, List, [], ◌∷◌, inl, inr, true, false, if◌then◌else◌, refl, sym, ap, subst}
 use Rattle.tick_units.specs.declared.task.Task.{Task}
 use Rattle.tick_units.specs.declared.task.Task.TheVariants.{Effect}
 use Rattle.site_types.specs.declared.site.Site.{Site}

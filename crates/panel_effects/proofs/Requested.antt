@@ -1,5 +1,5 @@
 -- What two solutions over the facts of the latest turn ask for is what the rules ask for.
-use Rattle.std.proofs.Common.{◌≡◌, ◌<◌, ◌+◌, ◌==◌, ◌&&◌, ℕ, zero, suc, Bool, true, false, List, Option, Some, None}
+use Rattle.std.proofs.Common.{◌≡◌, ◌+◌, ◌==◌, ◌&&◌, ℕ, zero, suc, Bool, true, false, List, Option, Some, None}
 use Rattle.std.proofs.Common.{length, slice_get, refl, sym, ◌∙◌, ap}
 use Rattle.std.specs.List.{list_any}
 use Rattle.tick_units.specs.declared.task.Task.TheVariants.{Effect}
@@ -15,7 +15,7 @@ use Rattle.site_types.proofs.Places.{all_at}
 use Rattle.marker_table.specs.declared.facts.Facts.{Facts as Masks}
 use Rattle.marker_table.specs.Equations.{is_met, values_of}
 use Rattle.cause_effect.specs.Cycles.{HasNoCycle}
-use Rattle.cause_effect.specs.Requests.{asked, asks, requests_of}
+use Rattle.cause_effect.specs.Requests.{asked, asks}
 use Rattle.cause_effect.specs.Solutions.{IsSolution}
 use Rattle.cause_effect.proofs.Truths.{same_bool}
 use Rattle.panel_rules.specs.Latest.{made_latest}
@@ -32,7 +32,7 @@ use Rattle.panel_bridges.specs.FactMasks.{AreFacts}
 use Rattle.panel_bridges.proofs.MaskEquations.{equation_same}
 use Rattle.output_calls.specs.DelayCalls.{requests_at}
 use Rattle.output_calls.proofs.Numbers.{same_output}
-use Rattle.panel_effects.specs.Masks.{AreMasksOf, hand_masks, no_facts}
+use Rattle.panel_effects.specs.Masks.{hand_masks, no_facts}
 use Rattle.panel_effects.specs.Stands.{HasEffects, facts_at_effect}
 use Rattle.panel_effects.specs.declared.effects.Effects.{Effects}
 use Rattle.panel_effects.proofs.FactsAsMasks.{facts_are, hand_masks_are}

@@ -10,7 +10,7 @@ use Rattle.cause_effect.proofs.Changing.{AreEqual}
 use Rattle.panel_rules.specs.Markers.{Facts}
 use Rattle.panel_rules.specs.Moments.{Moment, Turned}
 use Rattle.panel_effects.specs.Masks.{AreMasksOf, hand_masks}
-use Rattle.panel_effects.specs.Stands.{HasEffects, facts_at_effect}
+use Rattle.panel_effects.specs.Stands.{HasEffects}
 use Rattle.panel_effects.specs.declared.effects.Effects.{Effects}
 use Rattle.panel_effects.proofs.FactsAsMasks.{equal_masks}
 use Rattle.panel_effects.proofs.LatestFacts.{facts_now}

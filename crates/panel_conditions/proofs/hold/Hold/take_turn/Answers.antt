@@ -1,5 +1,4 @@
 use Rattle.std.proofs.Common.{◌≡◌, subst}
-use Rattle.answer_lanes.specs.Moves.{AreOfTurn}
 use Rattle.answer_lanes.specs.Points.{finding_at}
 use Rattle.answer_lanes.specs.Runs.{all_items}
 use Rattle.panel_conditions.specs.Changes.{WatchesPointsMore, WatchesZonesMore, moved_from}
