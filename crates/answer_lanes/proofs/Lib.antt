@@ -3,6 +3,7 @@ pub mod MaskBits
 pub mod PlaceSets
 -- the list of a run's items, and one finding more in a group or behind a run
 pub mod Expanded
+pub mod Blocks
 pub mod FindingRuns
 -- taking from a lane: the runs in its room, item by item, whole runs from its front, or all that lies in it
 pub mod Queues

@@ -1,4 +1,5 @@
 pub mod Points
+pub mod Blocks
 pub mod Runs
 pub mod Queues
 pub mod Moves

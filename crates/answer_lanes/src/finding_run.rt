@@ -1,6 +1,6 @@
 //! Findings that are put together to runs.
 
-ghost use Rattle.std.specs.Prelude.{◌≡◌, ◌∷◌, ◌++◌, [], false, true};
+ghost use Rattle.std.specs.Prelude.{◌≡◌, ◌≤◌, ◌+◌, ◌∷◌, ◌++◌, [], false, true};
 ghost use Rattle.answer_lanes.specs.Points.{finding_at};
 ghost use Rattle.answer_lanes.specs.Runs.{HasShortCount, items_of};
 
@@ -15,6 +15,7 @@ impl Run<FindingGroup> {
     pub fn none() -> Run<FindingGroup>
         ensures items { items_of finding_at result ≡ [] }
         ensures short { HasShortCount result }
+        ensures eight { result.taken + result.count ≤ 8 }
     {
         Run::default()
     }
@@ -28,6 +29,7 @@ impl Run<FindingGroup> {
         ensures kept { result ≡ false → self.new ≡ self.old }
         ensures refused { result ≡ false → CannotTake finding.now self.old }
         ensures short { HasShortCount self.new }
+        ensures eight { result ≡ true → self.new.taken + self.new.count ≤ 8 }
     {
         if self.count == 0 {
             *self = Run::one(*finding);

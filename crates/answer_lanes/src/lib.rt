@@ -10,8 +10,10 @@
 //! Only [`Lane::new`] and [`PlaceSet::first`] take memory.
 #![tactic(auto)]
 
+mod answer_block;
 mod answer_group;
 mod expanding;
+mod finding_block;
 mod finding_group;
 mod finding_run;
 mod lane;
@@ -20,12 +22,16 @@ mod place_set;
 mod run;
 mod run_queue;
 mod several;
+mod told;
 mod whole;
 
+pub use answer_block::AnswerBlock;
 pub use answer_group::AnswerGroup;
 pub use expanding::take_items;
+pub use finding_block::FindingBlock;
 pub use finding_group::FindingGroup;
 pub use lane::Lane;
 pub use place_set::PlaceSet;
 pub use run::Run;
 pub use several::Several;
+pub use told::Told;

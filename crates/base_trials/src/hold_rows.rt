@@ -5,7 +5,7 @@
 ghost use Rattle.std.specs.Prelude.{◌≡◌, ◌≤◌, IfOk};
 ghost use Rattle.site_types.specs.Valid.{IsValid};
 
-use answer_lanes::{FindingGroup, Lane};
+use answer_lanes::{FindingBlock, Lane};
 use anyhow::{Result, bail};
 use panel_conditions::{Finding, Hold, Outside};
 use site_types::{Event, Operation, Site};
@@ -14,7 +14,7 @@ use tick_units::Tick;
 use trial_cases::{History, Words, event_of};
 
 /// The findings of a tick.
-pub(crate) fn findings_at(alloc: Global, history: &History, tick: u64) -> Result<Lane<FindingGroup>>
+pub(crate) fn findings_at(alloc: Global, history: &History, tick: u64) -> Result<Lane<FindingBlock>>
     ensures { IfOk result (λ lane. lane.quota ≤ 32) }
 {
     let Ok(mut lane) = Lane::new(alloc, 32, 64) else {
@@ -51,7 +51,7 @@ fn found(mut words: Words) -> Result<Finding> {
     })
 }
 
-fn put(lane: &mut Lane<FindingGroup>, finding: Finding) -> Result<()>
+fn put(lane: &mut Lane<FindingBlock>, finding: Finding) -> Result<()>
     requires { (lane.old.quota ≡ 32) × (lane.old.capacity ≡ 64) }
     ensures { (lane.new.quota ≡ 32) × (lane.new.capacity ≡ 64) }
 {

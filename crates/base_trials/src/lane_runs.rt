@@ -3,7 +3,7 @@
 ghost use Rattle.std.specs.Prelude.{◌≡◌};
 
 use crate::spans::Spans;
-use answer_lanes::{AnswerGroup, Lane, Run, take_items};
+use answer_lanes::{AnswerBlock, Lane, Run, take_items};
 use anyhow::{Result, bail};
 use arrayvec::ArrayVec;
 use site_types::{Answer, Heard};
@@ -11,7 +11,8 @@ use std::alloc::Global;
 use tick_units::Tick;
 use trial_cases::{Lines, Words};
 
-/// What each turn takes: `run 24 15` puts the quiet answers of 15 points from the 24th on, `one 63` that of a point.
+/// What each turn takes: `run 24 15` puts the quiet answers of 15 points from the 24th on, at most 32, `one 63` that of
+/// a point.
 pub(crate) fn take_runs(alloc: Global, steps: &str) -> Result<String> {
     let Ok(mut lane) = Lane::new(alloc, 32, 64) else {
         bail!("no memory");
@@ -27,7 +28,7 @@ pub(crate) fn take_runs(alloc: Global, steps: &str) -> Result<String> {
     lines.done()
 }
 
-fn take_step(lane: &mut Lane<AnswerGroup>, mut words: Words, lines: &mut Lines) -> Result<()>
+fn take_step(lane: &mut Lane<AnswerBlock>, mut words: Words, lines: &mut Lines) -> Result<()>
     requires { (lane.old.quota ≡ 32) × (lane.old.capacity ≡ 64) }
     ensures { (lane.new.quota ≡ 32) × (lane.new.capacity ≡ 64) }
 {
@@ -49,18 +50,26 @@ fn take_step(lane: &mut Lane<AnswerGroup>, mut words: Words, lines: &mut Lines) 
     }
 }
 
-fn put_run(lane: &mut Lane<AnswerGroup>, point: u16, count: u8) -> Result<()>
+fn put_run(lane: &mut Lane<AnswerBlock>, point: u16, count: u8) -> Result<()>
     requires { (lane.old.quota ≡ 32) × (lane.old.capacity ≡ 64) }
     ensures { (lane.new.quota ≡ 32) × (lane.new.capacity ≡ 64) }
 {
-    if count > 64 || lane.len() > 64 - count as usize || lane.put_count() > 1000 {
+    if count > 32 {
+        bail!("a run of more than 32 points");
+    }
+    if lane.len() > 64 - count as usize || lane.put_count() > 1000 {
         bail!("a full lane");
     }
-    let first = AnswerGroup {
+    let first = AnswerBlock {
         stamp: Tick(1),
-        point,
-        alarms: 0,
-        silents: 0,
+        firsts: [
+            point,
+            point.saturating_add(8),
+            point.saturating_add(16),
+            point.saturating_add(24),
+        ],
+        alarms: [0; 4],
+        silents: [0; 4],
     };
     lane.put_run(Run {
         first,
@@ -70,7 +79,7 @@ fn put_run(lane: &mut Lane<AnswerGroup>, point: u16, count: u8) -> Result<()>
     Ok(())
 }
 
-fn put_one(lane: &mut Lane<AnswerGroup>, point: u16) -> Result<()>
+fn put_one(lane: &mut Lane<AnswerBlock>, point: u16) -> Result<()>
     requires { (lane.old.quota ≡ 32) × (lane.old.capacity ≡ 64) }
     ensures { (lane.new.quota ≡ 32) × (lane.new.capacity ≡ 64) }
 {
@@ -85,7 +94,7 @@ fn put_one(lane: &mut Lane<AnswerGroup>, point: u16) -> Result<()>
     Ok(())
 }
 
-fn take_turn(lane: &mut Lane<AnswerGroup>, lines: &mut Lines)
+fn take_turn(lane: &mut Lane<AnswerBlock>, lines: &mut Lines)
     requires { (lane.old.quota ≡ 32) × (lane.old.capacity ≡ 64) }
     ensures { (lane.new.quota ≡ 32) × (lane.new.capacity ≡ 64) }
 {

@@ -53,7 +53,7 @@ finding_by answer counted confirmed manual released missing = record {
   missing = missing;
 }
 
-same_finding : (answer : Answer) (c d f g m n r q : ℕ) (a b : Bool) → c ≡ d → f ≡ g → m ≡ n → r ≡ q → a ≡ b
+pub same_finding : (answer : Answer) (c d f g m n r q : ℕ) (a b : Bool) → c ≡ d → f ≡ g → m ≡ n → r ≡ q → a ≡ b
     → finding_by answer c f m r a ≡ finding_by answer d g n q b
 same_finding answer c d f g m n r q a b e1 e2 e3 e4 e5 = cc
 

@@ -9,6 +9,7 @@ pub mod Masked
 pub mod FindingIs
 pub mod TakenAnswer
 pub mod TakenRuns
+pub mod Eights
 pub mod Marked
 pub mod PlainAlarms
 pub mod PlainZones
@@ -19,6 +20,7 @@ pub mod Resting
 pub mod RunItems
 pub mod Passed
 pub mod ZoneParts
+pub mod Steady
 -- operations: what is kept after one, by its kind, and that those of other panels change nothing
 pub mod AppliedOperation
 pub mod OperationKinds

@@ -66,32 +66,42 @@ PutsFindings old answers lane findings =
     → DecidesFor site kept panel done taken old → MayTake site panel done taken answers
     → findings ≡ with_put lane (findings_after site kept panel done taken answers)
 
--- the answers of a run may be taken, and there is room for their findings
-pub record CanTakeAnswerRun (decide : Decide) (run : Run AnswerGroup) (findings : LaneState Finding) : Type 0 where
-  pub short : HasShortCount run
-  pub room : HasRoom findings run.count
-  pub may : CanTake decide (items_of answer_at run)
+-- where the answer at a place of what stands in a run is this
+module _ {S : Type 0} (item_at : S → ℕ → Answer) where
+  -- the answers of a run may be taken, and there is room for their findings
+  pub record CanTakeRunOf (decide : Decide) (run : Run S) (findings : LaneState Finding) : Type 0 where
+    pub short : HasShortCount run
+    pub room : HasRoom findings run.count
+    pub may : CanTake decide (items_of item_at run)
 
--- the answers of a run are taken after those before them, and one finding for each is put into the lane
-pub record TakesAnswerRun (old : Decide) (run : Run AnswerGroup) (lane : LaneState Finding) (decide : Decide)
-    (findings : LaneState Finding) : Type 0 where
-  pub taken : TakesAnswers old (items_of answer_at run) decide
-  pub put : PutsFindings old (items_of answer_at run) lane findings
+  -- the answers of a run are taken after those before them, and one finding for each is put into the lane
+  pub record TakesRunOf (old : Decide) (run : Run S) (lane : LaneState Finding) (decide : Decide)
+      (findings : LaneState Finding) : Type 0 where
+    pub taken : TakesAnswers old (items_of item_at run) decide
+    pub put : PutsFindings old (items_of item_at run) lane findings
 
--- the answers of runs may be taken, and there is room for their findings
-pub record CanTakeRuns (decide : Decide) (runs : List (Run AnswerGroup)) (findings : LaneState Finding) : Type 0 where
-  pub held : All HoldsItems runs
-  pub room : HasRoom findings (length (all_items answer_at runs))
-  pub may : CanTake decide (all_items answer_at runs)
+  -- the answers of runs may be taken, and there is room for their findings
+  pub record CanTakeRuns (decide : Decide) (runs : List (Run S)) (findings : LaneState Finding) : Type 0 where
+    pub held : All HoldsItems runs
+    pub room : HasRoom findings (length (all_items item_at runs))
+    pub may : CanTake decide (all_items item_at runs)
 
--- of some runs some are left; the answers of those in front of them are taken after those before, and one finding for
--- each is put into the lane
-pub record TakesFirstRuns (old : Decide) (runs left : List (Run AnswerGroup)) (lane : LaneState Finding)
-    (decide : Decide) (findings : LaneState Finding) : Type 0 where
-  pub front : List (Run AnswerGroup)
-  pub parts : runs ≡ front ++ left
-  pub taken : TakesAnswers old (all_items answer_at front) decide
-  pub put : PutsFindings old (all_items answer_at front) lane findings
+  -- of some runs some are left; the answers of those in front of them are taken after those before, and one finding
+  -- for each is put into the lane
+  pub record TakesFirstRuns (old : Decide) (runs left : List (Run S)) (lane : LaneState Finding) (decide : Decide)
+      (findings : LaneState Finding) : Type 0 where
+    pub front : List (Run S)
+    pub parts : runs ≡ front ++ left
+    pub taken : TakesAnswers old (all_items item_at front) decide
+    pub put : PutsFindings old (all_items item_at front) lane findings
+
+-- the answers of a run of a group may be taken, and there is room for their findings
+abbrev pub CanTakeAnswerRun : Decide → Run AnswerGroup → LaneState Finding → Type 0
+CanTakeAnswerRun = CanTakeRunOf answer_at
+
+-- the answers of a run of a group are taken after those before them, and one finding for each is put into the lane
+abbrev pub TakesAnswerRun : Decide → Run AnswerGroup → LaneState Finding → Decide → LaneState Finding → Type 0
+TakesAnswerRun = TakesRunOf answer_at
 
 -- the finding is that of an answer that comes after those taken
 abbrev pub FindsNext : Decide → Answer → Finding → Type 0

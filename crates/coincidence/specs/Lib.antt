@@ -6,6 +6,7 @@ pub mod Parts
 -- what an answer means by what is kept, and which answers change nothing of it
 pub mod Observations
 pub mod Resting
+pub mod Steady
 pub mod GoingOn
 -- calls: what may come next, what it makes of all that is kept, and what is told of an answer
 pub mod Premises

@@ -10,7 +10,7 @@ use crate::point_watches::PointWatches;
 use crate::rules::{counts_unless, is_on, may_pair, plain_finding};
 use crate::watches::watch_zones;
 use crate::zone_watch::ZoneWatch;
-use answer_lanes::{AnswerGroup, FindingGroup, Lane, PlaceSet};
+use answer_lanes::{AnswerBlock, FindingBlock, Lane, PlaceSet};
 use arrayvec::ArrayVec;
 use coincidence_rules::Finding;
 use site_types::{Answer, Heard, Item, Operation, Retained, Site, has_bit_8};
@@ -70,7 +70,7 @@ impl Decide {
     }
 
     /// Takes the answers of a turn, and puts one finding for each.
-    pub fn turn(&mut self, answers: &mut Lane<AnswerGroup>, findings: &mut Lane<FindingGroup>)
+    pub fn turn(&mut self, answers: &mut Lane<AnswerBlock>, findings: &mut Lane<FindingBlock>)
         requires quota { answers.old.quota ≤ 32 }
         requires room { HasRoom findings.old 32 }
         requires may { CanTake self.old (taken_by answers.old) }

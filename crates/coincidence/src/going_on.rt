@@ -6,10 +6,11 @@ ghost use Rattle.answer_lanes.specs.Runs.{items_of};
 
 use crate::bits::{bits_from, lowest_bit, lowest_bit_or, one_bit};
 use crate::decide::Decide;
+use crate::gathering::put_eight;
 use crate::plain_zone::PlainZone;
 use crate::rules::telling_group;
 use crate::zone_part::ZonePart;
-use answer_lanes::{AnswerGroup, FindingGroup, Lane, Run};
+use answer_lanes::{AnswerGroup, FindingBlock, Lane, Run};
 use site_types::{Answer, Heard, with_bit_8};
 use tick_units::Tick;
 
@@ -39,7 +40,7 @@ impl Decide {
         &self,
         run: &Run<AnswerGroup>,
         changing: u8,
-        findings: &mut Lane<FindingGroup>,
+        findings: &mut Lane<FindingBlock>,
     )
         requires some { 0 < changing }
         requires within { IsWithinEight run.now }
@@ -53,11 +54,12 @@ impl Decide {
         while left != 0 {
             let part = self.part_going_on(run, left);
             let end = run.taken + lowest_bit_or(part.behind, run.count);
-            findings.put_run(Run {
+            let told = Run {
                 first: telling_group(&run.first, part.zones),
                 taken: place,
                 count: end - place,
-            });
+            };
+            put_eight(told, findings);
             place = end;
             left = part.behind;
         }
@@ -65,7 +67,7 @@ impl Decide {
 
     // Of those alarms of a run within a group of eight of which the bits tell: the zones that the first one confirms,
     // and the bits of the others from the first one on that lies in another zone.
-    fn part_going_on(&self, run: &Run<AnswerGroup>, bits: u8) -> ZonePart
+    pub(crate) fn part_going_on(&self, run: &Run<AnswerGroup>, bits: u8) -> ZonePart
         requires some { 0 < bits }
         requires within { IsWithinEight run.now }
         requires going { AreGoingOn self.now run.now bits }

@@ -3,7 +3,7 @@ ghost use Rattle.coincidence.specs.Parts.{switch_at};
 ghost use Rattle.coincidence_rules.specs.Kept.{after as after_tick, makes_pairs as makes_pairs_in};
 ghost use Rattle.coincidence_rules.specs.Counted.{is_alarm};
 
-use answer_lanes::{AnswerGroup, FindingGroup};
+use answer_lanes::{AnswerBlock, AnswerGroup, FindingBlock, FindingGroup, Told};
 use coincidence_rules::Finding;
 use site_types::{Answer, Heard, Rule};
 use tick_units::{Switch, Tick};
@@ -85,6 +85,51 @@ pub fn plain_group(answers: &AnswerGroup) -> FindingGroup
         confirmed: 0,
         manual: 0,
         released: 0,
+    }
+}
+
+ghost use Rattle.coincidence.specs.Steady.{IsPlainBlock, IsQuietBlock};
+
+/// What the quiet answers of a block mean: they tell of no zone, and of no missing point.
+pub fn quiet_block(answers: &AnswerBlock) -> FindingBlock
+    requires { IsQuietBlock answers.now }
+    ensures { IsPlainBlock answers.now result }
+{
+    plain_with(answers, [0, 0, 0, 0])
+}
+
+/// What the answers of a block mean that tell of no zone, of points that are missing where they are silent.
+pub fn plain_block(answers: &AnswerBlock) -> FindingBlock
+    ensures { IsPlainBlock answers.now result }
+{
+    let missing = [
+        answers.eight(0).silent_bits(),
+        answers.eight(1).silent_bits(),
+        answers.eight(2).silent_bits(),
+        answers.eight(3).silent_bits(),
+    ];
+    plain_with(answers, missing)
+}
+
+ghost use Rattle.coincidence.specs.Steady.{AreSilentIn};
+
+// What the answers of a block mean that tell of no zone, where these bits of each eight are set of those that are silent.
+fn plain_with(answers: &AnswerBlock, missing: [u8; 4]) -> FindingBlock
+    requires { AreSilentIn answers.now missing }
+    ensures { IsPlainBlock answers.now result }
+{
+    let none = Told {
+        counted: 0,
+        confirmed: 0,
+        manual: 0,
+        released: 0,
+    };
+    FindingBlock {
+        stamp: answers.stamp,
+        firsts: answers.firsts,
+        missing,
+        telling: [0, 0, 0, 0],
+        told: [none, none, none, none],
     }
 }
 

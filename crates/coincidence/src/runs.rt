@@ -2,14 +2,14 @@
 
 ghost use Rattle.std.specs.Prelude.{◌≡◌, ◌≤◌, All, false, length, true};
 ghost use Rattle.tick_units.specs.Lane.{HasRoom};
-ghost use Rattle.answer_lanes.specs.Points.{answer_at};
+ghost use Rattle.answer_lanes.specs.Blocks.{block_answer_at};
 ghost use Rattle.answer_lanes.specs.Runs.{HasShortCount, HoldsItems, all_items};
 
 use crate::bits::{bits_from, first_bits, lowest_bit};
 use crate::decide::Decide;
-use crate::gathering::{gather, gather_at};
+use crate::gathering::{gather, gather_at, put_eight};
 use crate::rules::plain_group;
-use answer_lanes::{AnswerGroup, FindingGroup, Lane, Run};
+use answer_lanes::{AnswerBlock, AnswerGroup, FindingBlock, Lane, Run};
 use site_types::with_bit_8;
 
 impl Decide {
@@ -19,17 +19,17 @@ impl Decide {
     ghost use Rattle.coincidence.specs.Stands.{CanTake};
 
     // Takes the answers of runs, one run after the other, and puts one finding for each.
-    pub(crate) fn take_runs(&mut self, runs: &[Run<AnswerGroup>], findings: &mut Lane<FindingGroup>)
+    pub(crate) fn take_runs(&mut self, runs: &[Run<AnswerBlock>], findings: &mut Lane<FindingBlock>)
         requires runs { All HoldsItems runs.now }
-        requires room { HasRoom findings.old (length (all_items answer_at runs.now)) }
-        requires may { CanTake self.old (all_items answer_at runs.now) }
-        ensures taken { TakesAnswers self.old (all_items answer_at runs.now) self.new }
-        ensures findings { PutsFindings self.old (all_items answer_at runs.now) findings.old
+        requires room { HasRoom findings.old (length (all_items block_answer_at runs.now)) }
+        requires may { CanTake self.old (all_items block_answer_at runs.now) }
+        ensures taken { TakesAnswers self.old (all_items block_answer_at runs.now) self.new }
+        ensures findings { PutsFindings self.old (all_items block_answer_at runs.now) findings.old
             findings.new }
     {
         let mut left = self.pass_steady(runs, findings);
         while let [run, rest @ ..] = left {
-            self.take_run(run, findings);
+            self.take_eights(run, findings);
             left = self.pass_steady(rest, findings);
         }
     }
@@ -38,15 +38,15 @@ impl Decide {
     // the runs behind them. This loop stands apart from the slow ways, so that it need not share registers with them.
     fn pass_steady<'a>(
         &self,
-        runs: &'a [Run<AnswerGroup>],
-        findings: &mut Lane<FindingGroup>,
-    ) -> &'a [Run<AnswerGroup>]
-        requires { CanTakeRuns self.now runs.now findings.old }
-        ensures { TakesFirstRuns self.now runs.now result.now findings.old self.now findings.new }
+        runs: &'a [Run<AnswerBlock>],
+        findings: &mut Lane<FindingBlock>,
+    ) -> &'a [Run<AnswerBlock>]
+        requires { CanTakeRuns block_answer_at self.now runs.now findings.old }
+        ensures { TakesFirstRuns block_answer_at self.now runs.now result.now findings.old self.now findings.new }
     {
         let mut left = runs;
         while let [run, rest @ ..] = left {
-            if !self.passes(run, findings) {
+            if !self.passes_at_once(run, findings) {
                 return left;
             }
             left = rest;
@@ -56,7 +56,7 @@ impl Decide {
 
     // Puts the findings of a run within a group of eight whose answers change nothing of what is kept: in one step, or
     // one for each zone. Tells whether it is such a run, and leaves any other one as it is.
-    fn passes(&self, run: &Run<AnswerGroup>, findings: &mut Lane<FindingGroup>) -> bool
+    pub(crate) fn passes(&self, run: &Run<AnswerGroup>, findings: &mut Lane<FindingBlock>) -> bool
         requires { CanTakeAnswerRun self.now run.now findings.old }
         ensures passed { result ≡ true
             → TakesAnswerRun self.now run.now findings.old self.now findings.new }
@@ -67,11 +67,12 @@ impl Decide {
         }
         let changing = self.changing_bits(run);
         if changing == 0 {
-            findings.put_run(Run {
+            let told = Run {
                 first: plain_group(&run.first),
                 taken: run.taken,
                 count: run.count,
-            });
+            };
+            put_eight(told, findings);
             return true;
         }
         if !self.all_go_on(run, changing) {
@@ -83,7 +84,7 @@ impl Decide {
 
     // Takes the answers of a run one by one, all of them or, within a group of eight, those that may change what is
     // kept of their points. One finding is put for each answer.
-    fn take_run(&mut self, run: &Run<AnswerGroup>, findings: &mut Lane<FindingGroup>)
+    pub(crate) fn take_run(&mut self, run: &Run<AnswerGroup>, findings: &mut Lane<FindingBlock>)
         requires { CanTakeAnswerRun self.old run.now findings.old }
         ensures { TakesAnswerRun self.old run.now findings.old self.new findings.new }
     {
@@ -96,7 +97,7 @@ impl Decide {
     }
 
     // Takes the answers of a run one by one.
-    fn take_each(&mut self, run: &Run<AnswerGroup>, findings: &mut Lane<FindingGroup>)
+    fn take_each(&mut self, run: &Run<AnswerGroup>, findings: &mut Lane<FindingBlock>)
         requires { CanTakeAnswerRun self.old run.now findings.old }
         ensures { TakesAnswerRun self.old run.now findings.old self.new findings.new }
     {
@@ -105,7 +106,7 @@ impl Decide {
             let finding = self.take(&run.item(place));
             gather(finding, &mut found, findings);
         }
-        findings.put_run(found);
+        put_eight(found, findings);
     }
 
     // Takes the answers of a run within a group of eight: one by one those that may change what is kept of their
@@ -114,7 +115,7 @@ impl Decide {
         &mut self,
         run: &Run<AnswerGroup>,
         changing: u8,
-        findings: &mut Lane<FindingGroup>,
+        findings: &mut Lane<FindingBlock>,
     )
         requires within { IsWithinEight run.now }
         requires tells { TellsChanging self.old run.now changing }
@@ -137,12 +138,12 @@ impl Decide {
             left = with_bit_8(left, bit, false);
         }
         found.count = run.taken + run.count - found.taken;
-        findings.put_run(found);
+        put_eight(found, findings);
     }
 
     // Which of the answers of a run within a group of eight may change what is kept of their points, a bit for each.
     #[inline(always)]
-    fn changing_bits(&self, run: &Run<AnswerGroup>) -> u8
+    pub(crate) fn changing_bits(&self, run: &Run<AnswerGroup>) -> u8
         requires { IsWithinEight run.now }
         ensures { TellsChanging self.now run.now result }
     {

@@ -1,6 +1,6 @@
 -- The answers of a group of points on a cable with nothing wrong are those of its states.
-use Rattle.std.proofs.Common.{◌≡◌, ℕ, zero, suc, ◌+◌, ◌-◌, ◌*◌, ◌/◌, ◌%◌, ◌<◌, ◌≤◌, List, ◌∷◌, All, length, map, Option, Some, None, true}
-use Rattle.std.proofs.Common.{slice_get, slice_index_or, refl, sym, ◌∙◌, ap, subst, arith, option_map, take, drop}
+use Rattle.std.proofs.Common.{◌≡◌, ℕ, zero, suc, ◌+◌, ◌-◌, ◌*◌, ◌%◌, ◌<◌, ◌≤◌, List, ◌∷◌, All, length, map, Option, Some, None, true}
+use Rattle.std.proofs.Common.{false, slice_get, slice_index_or, refl, sym, ◌∙◌, ap, subst, arith, option_map, take, drop}
 use Rattle.std.proofs.lemmas.List.{get_or-drop, get_or-take, length-drop, length-take}
 use Rattle.std.proofs.lemmas.List.Elements.{All-cons, All-head, All-nil, All-tail}
 use Rattle.std.proofs.lemmas.Nat.{mod_below}
@@ -13,12 +13,13 @@ use Rattle.site_types.specs.Profile.{round_of}
 use Rattle.site_types.specs.Things.{loop_of}
 use Rattle.site_types.specs.Valid.{IsValid}
 use Rattle.site_types.proofs.ValidSites.{few_points}
+use Rattle.isolators.specs.declared.line_status.LineStatus.{LineStatus}
 use Rattle.isolators.specs.Reach.{Cable}
 use Rattle.loop_poller.specs.declared.group.Group.{Group}
 use Rattle.loop_poller.specs.declared.polled_line.PolledLine.{PolledLine}
-use Rattle.loop_poller.specs.Asked.{answer_from, answer_of, asked_on, heard_of, is_reached_on, point_at}
+use Rattle.loop_poller.specs.Asked.{answer_from, answer_of, asked_on, heard_of, is_reached_on, point_at, status_on}
 use Rattle.loop_poller.specs.Groups.{FollowFrom, IsWithin, group_answers, place_answer}
-use Rattle.loop_poller.specs.Stands.{AreStates, IsSoundGroup, LineStands}
+use Rattle.loop_poller.specs.Stands.{AreStates, LineStands}
 use Rattle.loop_poller.proofs.GroupMasks.{same_map}
 use Rattle.loop_poller.proofs.Lines.{no_points, on_loop, point_there}
 use Rattle.loop_poller.proofs.Sound.{reaches_on}
@@ -68,8 +69,8 @@ place_told : (tick first : ℕ) (state : PointState) (i : ℕ) → first + i ≤
 place_told tick first state i few = ap (point_answer tick state) (omega (arith, few))
 
 module _ (site : Site) (panel line : ℕ) (points : ℕ → PointState) (cables : ℕ → Cable) (tick : ℕ) (polled : PolledLine) (states : List PointState)
-    (first : ℕ) (group : Group) (valid : IsValid site) (stands : LineStands site panel line (cables line) polled) (are : AreStates site points states)
-    (from : first ≡ 8 * (tick % round_of site.format) + 1) (is : IsSoundGroup polled first group) where
+    (group : Group) (valid : IsValid site) (stands : LineStands site panel line (cables line) polled) (are : AreStates site points states)
+    (is : slice_get polled.groups.items (tick % round_of site.format) ≡ Some (Some group)) where
   abbrev q : ℕ
   q = tick % round_of site.format
 
@@ -77,9 +78,7 @@ module _ (site : Site) (panel line : ℕ) (points : ℕ → PointState) (cables 
   at address = slice_index_or polled.points.items (address - 1) None
 
   follow : FollowFrom polled.points.items (8 * q + 1) group
-  follow =
-      let number : q ≡ (first - 1) / 8 = omega (arith, from) in
-      stands.groups q group (ap (slice_get polled.groups.items) number ∙ is.is)
+  follow = stands.groups q group is
 
   found : (address : ℕ) → 8 * q + 1 ≤ address → address < 8 * q + 1 + 8 → at address ≡ point_at site panel line address
   found address low high =
@@ -108,15 +107,17 @@ module _ (site : Site) (panel line : ℕ) (points : ℕ → PointState) (cables 
       is_asked_here site panel points cables tick line address (group_of q (8 * q + 1) address refl low high)
       ∙ ap (option_map (answer_of site panel points cables tick line address)) (sym (found address low high))
 
-  answers : (address point : ℕ) → 8 * q + 1 ≤ address → address < 8 * q + 1 + 8 → at address ≡ Some point
+  abbrev status : LineStatus
+  status = status_on (loop_of site panel line) (cables line)
+
+  answers : status.broken ≡ false → status.shorted ≡ false → (address point : ℕ) → 8 * q + 1 ≤ address → address < 8 * q + 1 + 8 → at address ≡ Some point
       → answer_from site panel points cables tick line address ≡ Some (point_answer tick (points point) point)
-  answers address point low high there_is =
+  answers whole unshorted address point low high there_is =
       let there : point_at site panel line address ≡ Some point = sym (found address low high) ∙ there_is in
       let loop = loop_of site panel line in
       let has_loop : loop ≡ None → ⊥ = (λ none. let gone = no_points site panel line address valid none (Some point) there in absurd (cc)) in
       let reached : is_reached_on loop (cables line) address ≡ true =
-      reaches_on loop (cables line) address has_loop (is.sound.whole site panel line (cables line) stands)
-      (is.sound.unshorted site panel line (cables line) stands) (on_loop site panel line address point valid there) in
+      reaches_on loop (cables line) address has_loop whole unshorted (on_loop site panel line address point valid there) in
       asked address low high ∙ ap (option_map (answer_of site panel points cables tick line address)) there_is
       ∙ ap (λ r. Some (record { stamp = record { 0 = tick }; point = point; heard = heard_of (points point) r })) reached
 
@@ -135,15 +136,15 @@ module _ (site : Site) (panel line : ℕ) (points : ℕ → PointState) (cables 
   part_size zero e = simp (length-take, length-drop) (omega (arith, e))
   part_size (suc n) e = let fits = group_within (omega (arith, e)) in simp (length-take, length-drop) (omega (arith, fits))
 
-  -- what they answer is all that is asked of the loop in the tick
-  pub group_asked : asked_on site panel points cables tick line ≡ group_answers tick group states
-  group_asked =
+  -- where nothing is wrong with the cable, what they answer is all that is asked of the loop in the tick
+  pub group_asked : status.broken ≡ false → status.shorted ≡ false → asked_on site panel points cables tick line ≡ group_answers tick group states
+  group_asked whole unshorted =
       let f = answer_from site panel points cables tick line in
       let told = λ (point : ℕ). point_answer tick (points point) point in
       let part = take group.count (drop group.first states) in
       let size : length part ≡ group.count = part_size group.count refl in
       asked_window site panel points cables tick line valid.forms.format.0
-      ∙ found_told at f told (8 * q + 1) 8 answers
+      ∙ found_told at f told (8 * q + 1) 8 (answers whole unshorted)
       (λ address low high none. asked address low high ∙ ap (option_map (answer_of site panel points cables tick line address)) none)
       ∙ ap (map told) follow
       ∙ sym (same_map (λ place. place_answer tick group.first (slice_index_or part place Quiet) place) told 0 group.first group.count

@@ -15,3 +15,7 @@ pub mod FollowingPoints
 pub mod PointPlaces
 pub mod GroupMasks
 pub mod GroupAnswers
+-- four groups at the same addresses, and their answers
+pub mod BlockGroups
+pub mod BlockAnswers
+pub mod AskedBlocks

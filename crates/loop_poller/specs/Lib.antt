@@ -7,4 +7,5 @@ pub mod Stands
 -- which points are asked in a tick, and the answers that go into a lane
 pub mod Asked
 pub mod Groups
+pub mod Blocks
 pub mod Puts

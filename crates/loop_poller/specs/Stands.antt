@@ -12,6 +12,7 @@ use Rattle.loop_poller.specs.declared.polled_line.PolledLine.{PolledLine}
 use Rattle.loop_poller.specs.declared.poller.Poller.{Poller}
 use Rattle.site_types.specs.Things.{loop_of}
 use Rattle.loop_poller.specs.Asked.{status_on}
+use Rattle.loop_poller.specs.Blocks.{AreBlocks}
 use Rattle.loop_poller.specs.Cables.{CableStands}
 use Rattle.loop_poller.specs.Groups.{AreGroups}
 use Rattle.loop_poller.specs.Points.{ArePoints}
@@ -46,6 +47,7 @@ pub record AsksFor (site : Site) (panel : ℕ) (calls : List Call) (poller : Pol
   pub format : poller.profile.format ≡ site.format
   pub lines : (place : ℕ) (line : PolledLine) → slice_get poller.lines place ≡ Some line
       → LineStands site panel (place + 1) (told_cable calls (place + 1)) line
+  pub blocks : AreBlocks poller.lines poller.blocks.items
   pub states : AreStates site (told_point calls) poller.states
 
 -- the masks of a poller have the loops whose cable has a fault, by what it was told
@@ -64,6 +66,12 @@ pub record StandsForSome (poller : Poller) : Type 0 where
   pub panel : ℕ
   pub calls : List Call
   pub asks : AsksFor site panel calls poller
+
+-- a poller keeps these groups of four loops under a number, and no loop has a fault
+pub record IsSoundBlock (poller : Poller) (number : ℕ) (groups : List Group) : Type 0 where
+  pub is : slice_get poller.blocks.items number ≡ Some (Some groups)
+  pub whole : poller.broken ≡ 0
+  pub unshorted : poller.shorted ≡ 0
 
 -- a poller has a state for this point
 abbrev pub HasPoint : Poller → ℕ → Type 0

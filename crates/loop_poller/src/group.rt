@@ -2,7 +2,7 @@ ghost use Rattle.std.specs.Prelude.{◌≡◌, ◌≤◌, ◌+◌, ℕ};
 ghost use Rattle.tick_units.specs.Lane.{HasRoom, with_put};
 
 use crate::point_states::PointStates;
-use answer_lanes::{AnswerGroup, Lane, Run};
+use answer_lanes::{AnswerBlock, AnswerGroup, Lane, Run};
 use tick_units::Tick;
 
 /// The points at eight addresses of a loop, which follow one another in the site.
@@ -18,7 +18,7 @@ impl Group {
     ghost use Rattle.loop_poller.specs.Groups.{IsWithin, group_answers};
 
     /// Puts the answers of its points, all of which are reached, where the site's points are in these states.
-    pub fn put_answers(&self, states: &PointStates, now: Tick, answers: &mut Lane<AnswerGroup>)
+    pub fn put_answers(&self, states: &PointStates, now: Tick, answers: &mut Lane<AnswerBlock>)
         requires { HasRoom answers.old 8 }
         ensures room { (n : ℕ) → HasRoom answers.old (n + 8) → HasRoom answers.new n }
         ensures put { IsWithin self.now states.now
@@ -29,12 +29,12 @@ impl Group {
             return;
         }
         answers.put_run(Run {
-            first: AnswerGroup {
+            first: AnswerBlock::from(AnswerGroup {
                 stamp: now,
                 point: self.first,
                 alarms: states.alarms_from(self.first),
                 silents: states.gone_from(self.first),
-            },
+            }),
             taken: 0,
             count: self.count,
         });

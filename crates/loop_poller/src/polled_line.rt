@@ -12,7 +12,7 @@ use crate::group::Group;
 use crate::groups::groups_of;
 use crate::point_states::PointStates;
 use crate::points::points_of;
-use answer_lanes::{AnswerGroup, Lane};
+use answer_lanes::{AnswerBlock, Lane};
 use isolators::{LineStatus, LoopLine};
 use site_types::{Answer, Heard, PieceState, PointState, Site};
 use std::alloc::{AllocError, Global};
@@ -30,6 +30,7 @@ pub struct PolledLine {
 impl PolledLine {
     ghost use Rattle.loop_poller.specs.Puts.{PutsGroup};
     ghost use Rattle.loop_poller.specs.Stands.{IsOnLoop, IsSoundGroup, IsSoundLine, LineStands};
+    ghost use Rattle.loop_poller.specs.Blocks.{IsWholeGroup};
 
     pub fn new(alloc: Global, site: &Site, panel: u8, line: u8) -> Result<PolledLine, AllocError>
         requires { IsValid site.now }
@@ -45,7 +46,8 @@ impl PolledLine {
     }
 
     pub fn set_piece(&mut self, piece: u8, state: PieceState)
-        ensures { (site : SiteOf) (panel line : ℕ) (cable : Cable)
+        ensures groups { self.new.groups ≡ self.old.groups }
+        ensures stands { (site : SiteOf) (panel line : ℕ) (cable : Cable)
             → LineStands site panel line cable self.old
             → LineStands site panel line (with_piece cable piece state) self.new }
     {
@@ -109,8 +111,18 @@ impl PolledLine {
         }
     }
 
+    /// The group of a number, where it has eight points.
+    pub fn whole_group(&self, number: usize) -> Option<Group>
+        ensures { IfSome result (λ group. IsWholeGroup self.now number group) }
+    {
+        match self.groups.get(number) {
+            Some(Some(group)) if group.count == 8 => Some(*group),
+            _ => None,
+        }
+    }
+
     /// Puts the answers of eight addresses, from the first one on.
-    pub fn ask(&self, states: &PointStates, first: u8, now: Tick, answers: &mut Lane<AnswerGroup>)
+    pub fn ask(&self, states: &PointStates, first: u8, now: Tick, answers: &mut Lane<AnswerBlock>)
         requires room { HasRoom answers.old 8 }
         requires from { (1 ≤ first) × (first ≤ 185) }
         requires within { first + 7 ≤ length self.now.points.items }

@@ -1,14 +1,17 @@
-ghost use Rattle.std.specs.Prelude.{◌≡◌, ◌≤◌, ◌+◌, [], ◌∷◌, List, ℕ, IfOk};
+ghost use Rattle.std.specs.Prelude.{◌≡◌, ◌≤◌, ◌+◌, ◌*◌, ◌%◌, [], ◌∷◌, List, ℕ, IfOk, IfSome};
 ghost use Rattle.tick_units.specs.Lane.{HasRoom};
 ghost use Rattle.site_types.specs.declared.site.Site.{Site as SiteOf};
+ghost use Rattle.site_types.specs.Profile.{round_of};
 ghost use Rattle.site_types.specs.Valid.{IsValid};
 ghost use Rattle.loop_poller.specs.Asked.{status_on};
 ghost use Rattle.site_types.specs.Things.{loop_of};
 ghost use Rattle.loop_poller.specs.Calls.{Call, Reported, Cabled, told_broken, told_cable, told_shorted};
 
+use crate::blocks::{blocks_of, put_block};
+use crate::group::Group;
 use crate::point_states::PointStates;
 use crate::polled_line::PolledLine;
-use answer_lanes::{AnswerGroup, Lane};
+use answer_lanes::{AnswerBlock, Lane};
 use isolators::LineStatus;
 use site_types::{PieceState, PointState, Profile, Site, with_bit_8};
 use std::alloc::Global;
@@ -19,6 +22,8 @@ use tick_units::{NoMemory, Tick};
 pub struct Poller {
     profile: Profile,
     lines: [PolledLine; 4],
+    /// By (address - 1) / 8. There is none where a loop has no group of eight points.
+    blocks: Vec<Option<[Group; 4]>>,
     states: PointStates,
     /// The loops whose cable has an open piece, and those with a short one, bit `loop - 1` each.
     broken: u8,
@@ -27,7 +32,7 @@ pub struct Poller {
 
 impl Poller {
     ghost use Rattle.loop_poller.specs.Puts.{PutsAnswers};
-    ghost use Rattle.loop_poller.specs.Stands.{HasPoint, StandsFor, StandsForSome};
+    ghost use Rattle.loop_poller.specs.Stands.{HasPoint, IsSoundBlock, StandsFor, StandsForSome};
 
     /// A poller of a panel, 1 to the panels of the site. All points are quiet and all cables sound.
     pub fn new(alloc: Global, site: &Site, panel: u8) -> Result<Poller, NoMemory>
@@ -40,10 +45,13 @@ impl Poller {
             PolledLine::new(alloc, site, panel, 3)?,
             PolledLine::new(alloc, site, panel, 4)?,
         ];
+        let profile = site.profile();
+        let blocks = blocks_of(alloc, &lines, profile.round() as usize)?;
         let states = PointStates::new(alloc, site.points.len())?;
         Ok(Poller {
-            profile: site.profile(),
+            profile,
             lines,
+            blocks,
             states,
             broken: 0,
             shorted: 0,
@@ -101,13 +109,37 @@ impl Poller {
     }
 
     /// Puts the answers of a tick: at most 32, in order of loop, then address.
-    pub fn turn(&self, now: Tick, answers: &mut Lane<AnswerGroup>)
+    pub fn turn(&self, now: Tick, answers: &mut Lane<AnswerBlock>)
         requires room { HasRoom answers.old 32 }
         requires stands { StandsForSome self.now }
         ensures asked { PutsAnswers self.now now.0 answers.old answers.new }
         ensures few { answers.new.put ≤ answers.old.put + 32 }
     {
-        let first = (now.0 % self.profile.round()) as u8 * 8 + 1;
+        let number = now.0 % self.profile.round();
+        match self.sound_block(number as usize) {
+            Some(groups) => put_block(groups, &self.states, now, answers),
+            None => self.ask_lines(number as u8 * 8 + 1, now, answers),
+        }
+    }
+
+    // The groups of the four loops at eight addresses, where each has eight points there and none has a fault.
+    fn sound_block(&self, number: usize) -> Option<&[Group; 4]>
+        ensures { IfSome result (λ groups. IsSoundBlock self.now number groups.now) }
+    {
+        match self.blocks.get(number) {
+            Some(Some(groups)) if self.broken == 0 && self.shorted == 0 => Some(groups),
+            _ => None,
+        }
+    }
+
+    // Puts the answers of eight addresses of each loop, loop by loop.
+    fn ask_lines(&self, first: u8, now: Tick, answers: &mut Lane<AnswerBlock>)
+        requires room { HasRoom answers.old 32 }
+        requires stands { StandsForSome self.now }
+        requires first { first ≡ (now.0 % round_of self.now.profile.format) * 8 + 1 }
+        ensures asked { PutsAnswers self.now now.0 answers.old answers.new }
+        ensures few { answers.new.put ≤ answers.old.put + 32 }
+    {
         for line in &self.lines {
             line.ask(&self.states, first, now, answers);
         }

@@ -1,14 +1,12 @@
 -- Findings that confirm zones plainly.
-use Rattle.std.proofs.Common.{◌≡◌, inr, ℕ, ◌<◌, ◌^◌, Bool, true, false, ◌&&◌, ◌||◌, bit_and, bit_or, refl, sym, ◌∙◌, ap}
+use Rattle.std.proofs.Common.{◌≡◌, ℕ, ◌<◌, ◌^◌, Bool, true, false, ◌&&◌, ◌||◌, bit_and, bit_or, refl, sym, ◌∙◌, ap}
 use Rattle.std.specs.Int.Bits.{or_self, or_zero_l, or_zero_r}
 use Rattle.std.proofs.lemmas.Nat.{or_lt}
 use Rattle.site_types.specs.Bits.{has_bit}
 use Rattle.site_types.proofs.Masks.{has_bit-and, has_bit-or, has_bit-zero, same_mask}
 use Rattle.coincidence_rules.specs.declared.finding.Finding.{Finding}
-use Rattle.answer_lanes.specs.declared.finding_group.FindingGroup.{FindingGroup}
 use Rattle.panel_conditions.specs.declared.signs.Signs.{Signs}
-use Rattle.panel_conditions.proofs.Runs.{TellsNoZone}
-use Rattle.panel_conditions.specs.Parts.{HasMasksOf, IsPlain, IsPlainGroup, IsShown, TellsPlainly, told_by}
+use Rattle.panel_conditions.specs.Parts.{IsPlain, IsShown, TellsPlainly, told_by}
 
 -- the zones of which a plain finding tells are those that it confirms
 pub plain_told : (f : Finding) → IsPlain f → told_by f ≡ f.confirmed
@@ -55,15 +53,3 @@ plain_shown f signs plain below alarm released is = record {
         in_both (has_bit f.confirmed k) (has_bit signs.alarm k) (has_bit signs.released k)
         (ap (λ b. b && has_bit signs.released k) (sym (has_bit-and f.confirmed signs.alarm k))
         ∙ sym (has_bit-and (bit_and f.confirmed signs.alarm) signs.released k) ∙ ap (λ m. has_bit m k) is)
-
--- a finding of a group that is plain
-pub plain_of : (group : FindingGroup) (f : Finding) → IsPlainGroup group → HasMasksOf group f → IsPlain f
-plain_of group f plain masks = record {
-  counted = masks.counted ∙ plain.counted ∙ sym masks.confirmed;
-  released = masks.released ∙ plain.released ∙ sym masks.confirmed;
-  manual = masks.manual ∙ plain.manual;
-}
-
--- a plain group tells of no zone where it confirms none
-pub plain_none : (group : FindingGroup) → IsPlainGroup group → group.confirmed ≡ 0 → TellsNoZone group
-plain_none group plain none = inr (plain.counted ∙ none, none, plain.manual, plain.released ∙ none)

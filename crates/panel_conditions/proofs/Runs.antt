@@ -1,6 +1,6 @@
 -- What is taken of the findings of a group, and of several runs.
-use Rattle.std.proofs.Common.{◌≡◌, ◌∙◌, ◌++◌, ◌∷◌, ◌+◌, ◌-◌, ◌<◌, ◌≤◌, ◌&&◌, ◌⊎◌, inl, inr, [], Bool, List, Some, not}
-use Rattle.std.proofs.Common.{true, false, length, map, max, slice_get, take, zero, suc, ℕ, if◌then◌else◌, get_or}
+use Rattle.std.proofs.Common.{◌≡◌, ◌∙◌, ◌++◌, ◌∷◌, ◌+◌, ◌-◌, ◌<◌, ◌≤◌, ◌&&◌, inl, inr, [], Bool, List, Some, not}
+use Rattle.std.proofs.Common.{true, false, length, map, max, min, slice_get, take, zero, suc, ℕ, if◌then◌else◌, get_or}
 use Rattle.std.proofs.Common.{refl, sym, ap, subst, arith, append_assoc, append-nil}
 use Rattle.std.specs.List.{range_with_len}
 use Rattle.std.proofs.lemmas.List.{map-append, take_more}
@@ -13,11 +13,13 @@ use Rattle.site_types.proofs.Masks.{has_bit-zero}
 use Rattle.coincidence_rules.specs.declared.finding.Finding.{Finding}
 use Rattle.answer_lanes.specs.declared.finding_group.FindingGroup.{FindingGroup}
 use Rattle.answer_lanes.specs.declared.run.Run.{Run}
+use Rattle.answer_lanes.specs.Blocks.{told_of}
 use Rattle.answer_lanes.specs.Points.{finding_at, mask_if}
 use Rattle.answer_lanes.specs.Runs.{all_items, items_of}
 use Rattle.answer_lanes.proofs.Moving.{items_more, range_parts}
 use Rattle.panel_conditions.specs.declared.points.Points.{Points}
 use Rattle.panel_conditions.specs.declared.zone_watch.ZoneWatch.{ZoneWatch}
+use Rattle.panel_conditions.specs.Parts.{finding_of}
 use Rattle.panel_conditions.specs.Told.{AreTold}
 use Rattle.panel_conditions.specs.Stands.{WatchesPoints, WatchesZone, WatchesZones, latest_stamp}
 use Rattle.panel_conditions.proofs.Latest.{latest-append}
@@ -79,13 +81,6 @@ module _ (group : FindingGroup) (test : Finding → Bool) (base : Bool) (is :
       latest_none (from + 1) count (λ k less. (let there : from + (k + 1) ≡ from + 1 + k = omega arith in
       ap (has_bit group.telling) (sym there) ∙ none (k + 1) (omega (arith, less)))) in
       omega (arith, next, one, rest)
-
-  -- where nothing holds of them all, none is told
-  pub latest_off : (from count : ℕ) → base ≡ false → latest_stamp test (map (finding_at group) (range_with_len from count)) ≡ 0
-  latest_off from count off =
-      let none : bound ≡ 0 = ap (λ b. if b then group.stamp.0 else 0) off in
-      let most = latest_most from count in
-      omega (arith, most, none)
 
   -- one that tells is as good as all
   pub latest_one : (from count place : ℕ) → from ≤ place → place < from + count → has_bit group.telling place ≡ true
@@ -165,21 +160,28 @@ module _ (group : FindingGroup) (from count : ℕ) where
         (λ p. bits_if (has_bit group.telling p) group.counted group.manual k) from count none);
   }
 
-  same_as_off : (group.counted ≡ 0) × (group.confirmed ≡ 0) × (group.manual ≡ 0) × (group.released ≡ 0) → SameStamps [] items
-  same_as_off none = record {
-    confirmed = λ k. sym (latest_off group (λ f. has_bit f.confirmed k) (has_bit group.confirmed k) (λ p. bit_if (has_bit group.telling p) group.confirmed k)
-        from count (no_bit group.confirmed k none.1));
-    called = λ k. sym (latest_off group (λ f. has_bit f.manual k) (has_bit group.manual k) (λ p. bit_if (has_bit group.telling p) group.manual k)
-        from count (no_bit group.manual k none.2));
-    released = λ k. sym (latest_off group (λ f. has_bit f.released k) (has_bit group.released k) (λ p. bit_if (has_bit group.telling p) group.released k)
-        from count (no_bit group.released k none.3));
-    told = λ k. sym (latest_off group (λ f. has_bit f.counted k && not (has_bit f.manual k)) (has_bit group.counted k && not (has_bit group.manual k))
-        (λ p. bits_if (has_bit group.telling p) group.counted group.manual k) from count
-        (ap (λ b. b && not (has_bit group.manual k)) (no_bit group.counted k none.0)));
-  }
-    where
-      no_bit : (mask k : ℕ) → mask ≡ 0 → has_bit mask k ≡ false
-      no_bit mask k none = ap (λ m. has_bit m k) none ∙ has_bit-zero k
+-- a finding that tells of zones is taken as one of no point in particular
+pub taken_as : (site : Site) (panel : ℕ) (done : List Done) (taken : List Finding) (group : FindingGroup) (place : ℕ) (watches : List ZoneWatch)
+    → has_bit group.telling place ≡ true → WatchesZones site panel done (taken ++ finding_of group.stamp (told_of group) ∷ []) watches
+    → WatchesZones site panel done (taken ++ finding_at group place ∷ []) watches
+taken_as site panel done taken group place watches tells h =
+    zones_as site panel done taken (finding_of group.stamp (told_of group) ∷ []) (finding_at group place ∷ []) watches (record {
+      confirmed = λ k. ap (λ b. latest_stamp (λ f. has_bit f.confirmed k) (at b ∷ [])) (sym tells);
+      called = λ k. ap (λ b. latest_stamp (λ f. has_bit f.manual k) (at b ∷ [])) (sym tells);
+      released = λ k. ap (λ b. latest_stamp (λ f. has_bit f.released k) (at b ∷ [])) (sym tells);
+      told = λ k. ap (λ b. latest_stamp (λ f. has_bit f.counted k && not (has_bit f.manual k)) (at b ∷ [])) (sym tells);
+    }) h
+  where
+    at : Bool → Finding
+    at tells = record {
+      stamp = group.stamp;
+      point = min (group.point + place) 65535;
+      counted = mask_if tells group.counted;
+      confirmed = mask_if tells group.confirmed;
+      manual = mask_if tells group.manual;
+      released = mask_if tells group.released;
+      missing = has_bit group.missing place;
+    }
 
 -- a run is taken by one of its findings that tells
 pub taken_by_one : (site : Site) (panel : ℕ) (done : List Done) (taken : List Finding) (run : Run FindingGroup) (place : ℕ) (watches : List ZoneWatch)
@@ -198,20 +200,12 @@ taken_by_none site panel done taken run watches none h =
     zones_as site panel done taken [] (items_of finding_at run) watches (same_as_none run.first run.taken run.count none)
     (subst (λ l. WatchesZones site panel done l watches) (sym (append-nil taken)) h)
 
--- no finding of a group tells of a zone
-abbrev pub TellsNoZone : FindingGroup → Type 0
-TellsNoZone group = (group.telling ≡ 0)
-    ⊎ ((group.counted ≡ 0) × (group.confirmed ≡ 0) × (group.manual ≡ 0) × (group.released ≡ 0))
-
 -- or by none where its group tells of no zone
 pub taken_by_nothing : (site : Site) (panel : ℕ) (done : List Done) (taken : List Finding) (run : Run FindingGroup) (watches : List ZoneWatch)
-    → TellsNoZone run.first → WatchesZones site panel done taken watches → WatchesZones site panel done (taken ++ items_of finding_at run) watches
-taken_by_nothing site panel done taken run watches (inl none) h =
+    → run.first.telling ≡ 0 → WatchesZones site panel done taken watches → WatchesZones site panel done (taken ++ items_of finding_at run) watches
+taken_by_nothing site panel done taken run watches none h =
     taken_by_none site panel done taken run watches
     (λ k less. ap (λ m. has_bit m (run.taken + k)) none ∙ has_bit-zero (run.taken + k)) h
-taken_by_nothing site panel done taken run watches (inr none) h =
-    zones_as site panel done taken [] (items_of finding_at run) watches (same_as_off run.first run.taken run.count none)
-    (subst (λ l. WatchesZones site panel done l watches) (sym (append-nil taken)) h)
 
 -- ---- points of which nothing new is told
 
@@ -236,33 +230,35 @@ run_again site kept panel done taken run points told h = all_again site kept pan
 
 -- ---- what is taken
 
--- one more item of a run
-items_then : (group : FindingGroup) (from place : ℕ) → from ≤ place →
-    map (finding_at group) (range_with_len from (place + 1 - from))
-    ≡ map (finding_at group) (range_with_len from (place - from)) ++ finding_at group place ∷ []
-items_then group from place le =
-    let item = finding_at group in
-    let count : place + 1 - from ≡ (place - from) + 1 = omega (arith, le) in
-    let last : from + (place - from) ≡ place = omega (arith, le) in
-    ap (λ n. map item (range_with_len from n)) count ∙ ap (map item) (range_parts from (place - from) 1)
-    ∙ map-append item (range_with_len from (place - from)) (range_with_len (from + (place - from)) 1)
-    ∙ ap (λ n. map item (range_with_len from (place - from)) ++ item n ∷ []) last
+-- where the item at a place of what stands in a run is this
+module _ {S : Type 0} (item_at : S → ℕ → Finding) where
+  -- one more item of a run
+  pub items_then : (first : S) (from place : ℕ) → from ≤ place →
+      map (item_at first) (range_with_len from (place + 1 - from))
+      ≡ map (item_at first) (range_with_len from (place - from)) ++ item_at first place ∷ []
+  items_then first from place le =
+      let item = item_at first in
+      let count : place + 1 - from ≡ (place - from) + 1 = omega (arith, le) in
+      let last : from + (place - from) ≡ place = omega (arith, le) in
+      ap (λ n. map item (range_with_len from n)) count ∙ ap (map item) (range_parts from (place - from) 1)
+      ∙ map-append item (range_with_len from (place - from)) (range_with_len (from + (place - from)) 1)
+      ∙ ap (λ n. map item (range_with_len from (place - from)) ++ item n ∷ []) last
 
--- one more item of a run, behind those taken before
-pub item_more : (P : List Finding → Type 0) (taken : List Finding) (run : Run FindingGroup) (place : ℕ) (f : Finding) → run.taken ≤ place
-    → f ≡ finding_at run.first place
-    → P ((taken ++ map (finding_at run.first) (range_with_len run.taken (place - run.taken))) ++ f ∷ [])
-    → P (taken ++ map (finding_at run.first) (range_with_len run.taken (place + 1 - run.taken)))
-item_more P taken run place f le is h =
-    let before = map (finding_at run.first) (range_with_len run.taken (place - run.taken)) in
-    subst P (append_assoc taken before (f ∷ []) ∙ ap (λ g. taken ++ (before ++ g ∷ [])) is
-    ∙ ap (λ l. taken ++ l) (sym (items_then run.first run.taken place le))) h
+  -- one more item of a run, behind those taken before
+  pub item_more : (P : List Finding → Type 0) (taken : List Finding) (run : Run S) (place : ℕ) (f : Finding) → run.taken ≤ place
+      → f ≡ item_at run.first place
+      → P ((taken ++ map (item_at run.first) (range_with_len run.taken (place - run.taken))) ++ f ∷ [])
+      → P (taken ++ map (item_at run.first) (range_with_len run.taken (place + 1 - run.taken)))
+  item_more P taken run place f le is h =
+      let before = map (item_at run.first) (range_with_len run.taken (place - run.taken)) in
+      subst P (append_assoc taken before (f ∷ []) ∙ ap (λ g. taken ++ (before ++ g ∷ [])) is
+      ∙ ap (λ l. taken ++ l) (sym (items_then run.first run.taken place le))) h
 
--- one more run
-pub run_more : (P : List Finding → Type 0) (taken : List Finding) (runs : List (Run FindingGroup)) (k : ℕ) (d : Run FindingGroup) → k < length runs
-    → P ((taken ++ all_items finding_at (take k runs)) ++ items_of finding_at (get_or runs k d))
-    → P (taken ++ all_items finding_at (take (k + 1) runs))
-run_more P taken runs k d small h =
-    let run = get_or runs k d in
-    subst P (append_assoc taken (all_items finding_at (take k runs)) (items_of finding_at run)
-    ∙ ap (λ l. taken ++ l) (sym (ap (all_items finding_at) (take_more runs k d small) ∙ items_more finding_at (take k runs) run))) h
+  -- one more run
+  pub run_more : (P : List Finding → Type 0) (taken : List Finding) (runs : List (Run S)) (k : ℕ) (d : Run S) → k < length runs
+      → P ((taken ++ all_items item_at (take k runs)) ++ items_of item_at (get_or runs k d))
+      → P (taken ++ all_items item_at (take (k + 1) runs))
+  run_more P taken runs k d small h =
+      let run = get_or runs k d in
+      subst P (append_assoc taken (all_items item_at (take k runs)) (items_of item_at run)
+      ∙ ap (λ l. taken ++ l) (sym (ap (all_items item_at) (take_more runs k d small) ∙ items_more item_at (take k runs) run))) h

@@ -1,5 +1,5 @@
 -- What a turn, findings and an operation make of the part that holds, and what it tells, whatever it stands for.
-use Rattle.std.specs.Prelude.{◌≡◌, ◌≤◌, ℕ, List, ◌∷◌, ◌++◌, take}
+use Rattle.std.specs.Prelude.{◌≡◌, ◌≤◌, ℕ, List, ◌∷◌, ◌++◌, false, take}
 use Rattle.tick_units.specs.Lane.{LaneState, turn_count}
 use Rattle.site_types.specs.declared.operation.Operation.{Operation}
 use Rattle.site_types.specs.declared.retained.Retained.{Retained}
@@ -8,6 +8,7 @@ use Rattle.site_types.specs.Done.{Done, AreBy}
 use Rattle.coincidence_rules.specs.declared.finding.Finding.{Finding}
 use Rattle.answer_lanes.specs.declared.finding_group.FindingGroup.{FindingGroup}
 use Rattle.answer_lanes.specs.declared.run.Run.{Run}
+use Rattle.answer_lanes.specs.Blocks.{told_of}
 use Rattle.answer_lanes.specs.Points.{finding_at}
 use Rattle.answer_lanes.specs.Runs.{items_of}
 use Rattle.panel_conditions.specs.declared.hold.Hold.{Hold}
@@ -15,6 +16,7 @@ use Rattle.panel_conditions.specs.declared.outside.Outside.{Outside}
 use Rattle.panel_conditions.specs.declared.points.Points.{Points}
 use Rattle.panel_conditions.specs.declared.shown.Shown.{Shown}
 use Rattle.panel_conditions.specs.declared.zones.Zones.{Zones}
+use Rattle.panel_conditions.specs.Parts.{HasTelling, finding_of}
 use Rattle.panel_conditions.specs.Stands.{HoldsFor, MayApply, MayNote, MayTurn, Settled}
 use Rattle.panel_conditions.specs.Stands.{ShownStays, ShowsThen, Watches, WatchesPoints, WatchesZones}
 use Rattle.panel_conditions.specs.Turns.{HoldTurn}
@@ -75,11 +77,28 @@ ZonesStaySettled old zones =
     (site : Site) (panel : ℕ) (done : List Done) (taken : List Finding) (tick : ℕ)
     → WatchesZones site panel done taken old.watches.items → Settled tick old → Settled tick zones
 
--- by zones, the findings of a run are taken after those before
-pub record TakesZoneRun (run : Run FindingGroup) (old zones : Zones) : Type 0 where
-  pub watches : WatchesZonesMore old (items_of finding_at run) zones
+-- by points, these findings are taken after those before, and no point or zone is disabled or enabled
+pub record TakesPoints (findings : List Finding) (old points : Points) : Type 0 where
+  pub watches : WatchesPointsMore old findings points
+  pub off : (points.off ≡ old.off) × (points.zone_off ≡ old.zone_off)
+  pub missing : points.changed ≡ false → (old.changed ≡ false) × (points.missing ≡ old.missing)
+
+-- by zones, these findings are taken after those before
+pub record TakesZones (findings : List Finding) (old zones : Zones) : Type 0 where
+  pub watches : WatchesZonesMore old findings zones
   pub settled : ZonesStaySettled old zones
   pub moved : zones.moved ≡ old.moved
+
+-- by zones, the findings of any run are taken that tell of zones what this one does
+abbrev pub TakesTold : Finding → Zones → Zones → Type 0
+TakesTold finding old zones =
+    (run : Run FindingGroup) → HasTelling run → finding_of run.first.stamp (told_of run.first) ≡ finding
+    → TakesZones (items_of finding_at run) old zones
+
+-- by points and by zones, these findings are taken after those before
+pub record BothTake (findings : List Finding) (first last : Points) (old new' : Zones) : Type 0 where
+  pub points : TakesPoints findings first last
+  pub zones : TakesZones findings old new'
 
 -- in all that is kept, zones that were settled stay so, whatever findings they tell of
 abbrev pub StaysSettled : Hold → Hold → Type 0

@@ -1,6 +1,6 @@
 -- What the parts that hold make of a finding or an operation, and what they show at a tick.
 use Rattle.std.specs.Prelude.{◌≡◌, ◌⊎◌, ℕ, ◌-◌, Bool, true, false, not, List, Option, Some, None, slice_get}
-use Rattle.std.specs.Prelude.{bit_or, ◌==◌, ◌&&◌}
+use Rattle.std.specs.Prelude.{bit_or, ◌+◌, ◌<◌, ◌≤◌, ◌==◌, ◌&&◌}
 use Rattle.std.specs.Prelude.{nat_lt, nat_le, if◌then◌else◌}
 use Rattle.std.specs.Option.{is_some}
 use Rattle.tick_units.specs.declared.tick.Tick.{Tick}
@@ -16,6 +16,8 @@ use Rattle.site_types.specs.Bits.{has_bit, mask_of}
 use Rattle.site_types.specs.Done.{is_cancel, kept_point, kept_zone}
 use Rattle.coincidence_rules.specs.declared.finding.Finding.{Finding}
 use Rattle.answer_lanes.specs.declared.finding_group.FindingGroup.{FindingGroup}
+use Rattle.answer_lanes.specs.declared.run.Run.{Run}
+use Rattle.answer_lanes.specs.declared.told.Told.{Told}
 use Rattle.tick_units.specs.LastTicks.{last_at, last_if}
 use Rattle.panel_conditions.specs.declared.sign.Sign.{Sign}
 use Rattle.panel_conditions.specs.declared.sign.Sign.TheVariants.{Alarm, Manual, Released, First}
@@ -104,19 +106,24 @@ pub record IsPlain (finding : Finding) : Type 0 where
   pub released : finding.released ≡ finding.confirmed
   pub manual : finding.manual ≡ 0
 
--- the findings of a group that tell of zones tell of each of these that an answer of a detector counted, confirmed
--- it and released it
-pub record IsPlainGroup (group : FindingGroup) : Type 0 where
-  pub counted : group.counted ≡ group.confirmed
-  pub released : group.released ≡ group.confirmed
-  pub manual : group.manual ≡ 0
+-- what findings to an asking tell of zones, as a finding of no point in particular
+abbrev pub finding_of : Tick → Told → Finding
+finding_of stamp told = record {
+  stamp = stamp;
+  point = 0;
+  counted = told.counted;
+  confirmed = told.confirmed;
+  manual = told.manual;
+  released = told.released;
+  missing = false;
+}
 
--- a finding has the masks of a group
-pub record HasMasksOf (group : FindingGroup) (finding : Finding) : Type 0 where
-  pub counted : finding.counted ≡ group.counted
-  pub confirmed : finding.confirmed ≡ group.confirmed
-  pub manual : finding.manual ≡ group.manual
-  pub released : finding.released ≡ group.released
+-- one of a run's findings tells of zones
+pub record HasTelling (run : Run FindingGroup) : Type 0 where
+  pub place : ℕ
+  pub from : run.taken ≤ place
+  pub below : place < run.taken + run.count
+  pub tells : has_bit run.first.telling place ≡ true
 
 -- a finding tells nothing but what is shown
 pub record IsShown (finding : Finding) (signs : Signs) : Type 0 where

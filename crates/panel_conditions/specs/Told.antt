@@ -4,8 +4,10 @@ use Rattle.std.specs.List.{range_with_len}
 use Rattle.site_types.specs.Bits.{has_bit}
 use Rattle.coincidence_rules.specs.declared.finding.Finding.{Finding}
 use Rattle.answer_lanes.specs.declared.run.Run.{Run}
+use Rattle.answer_lanes.specs.declared.finding_block.FindingBlock.{FindingBlock}
 use Rattle.answer_lanes.specs.declared.finding_group.FindingGroup.{FindingGroup}
 use Rattle.answer_lanes.specs.declared.place_set.PlaceSet.{PlaceSet}
+use Rattle.answer_lanes.specs.Blocks.{eight_found}
 use Rattle.answer_lanes.specs.Places.{has_place}
 use Rattle.answer_lanes.specs.Points.{finding_at}
 use Rattle.panel_conditions.specs.Missing.{missing_found}
@@ -19,10 +21,23 @@ abbrev pub TellMissing : List Finding → List Bool → Type 0
 TellMissing taken told = (place : ℕ) (b : Bool) → slice_get told place ≡ Some b
     → b ≡ missing_found taken place
 
+-- all that a block holds
+abbrev pub block_run : FindingBlock → Run FindingBlock
+block_run block = record { first = block; taken = 0; count = 32 }
+
+-- all that one of a block's eights holds
+abbrev pub eight_run : FindingBlock → ℕ → Run FindingGroup
+eight_run block number = record { first = eight_found block number; taken = 0; count = 8 }
+
 -- the last finding of each point of a run told it missing, or not, as the run does
 abbrev pub AreTold : List Bool → Run FindingGroup → Type 0
 AreTold told run = (place : ℕ) → run.taken ≤ place → place < run.taken + run.count
     → slice_get told (finding_at run.first place).point ≡ Some (has_bit run.first.missing place)
+
+-- the last finding of each point of a block told it missing, or not, as the block does
+abbrev pub AreToldInBlock : List Bool → FindingBlock → Type 0
+AreToldInBlock told block = AreTold told (eight_run block 0) × AreTold told (eight_run block 1)
+    × AreTold told (eight_run block 2) × AreTold told (eight_run block 3)
 
 -- one mark is set, where the point has one
 abbrev pub MarksTold : ℕ → Bool → List Bool → List Bool → Type 0

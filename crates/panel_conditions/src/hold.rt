@@ -1,16 +1,17 @@
 ghost use Rattle.std.specs.Prelude.{◌≡◌, ◌<◌, ◌≤◌, ◌^◌, [], ℕ, List, All, IfOk};
 ghost use Rattle.tick_units.specs.Lane.{after_turn};
 ghost use Rattle.site_types.specs.Valid.{IsValid};
-ghost use Rattle.answer_lanes.specs.Points.{finding_at};
+ghost use Rattle.answer_lanes.specs.Blocks.{block_finding_at};
 ghost use Rattle.answer_lanes.specs.Runs.{HoldsItems, all_items};
 
+use crate::block_runs::take_run;
 use crate::news::has_fault;
 use crate::outside::Outside;
 use crate::points::Points;
 use crate::shown::Shown;
 use crate::signs::Signs;
 use crate::zones::Zones;
-use answer_lanes::{FindingGroup, Lane, Run};
+use answer_lanes::{FindingBlock, Lane, Run};
 use arrayvec::ArrayVec;
 use site_types::{Buzzer, FaultSet, Operation, Retained, Site, Word};
 use std::alloc::Global;
@@ -24,7 +25,7 @@ pub struct Hold {
     muted: LastDone,
     shown: Shown,
     /// The runs that a turn takes, in a room that each turn uses again.
-    batch: ArrayVec<Run<FindingGroup>, 32>,
+    batch: ArrayVec<Run<FindingBlock>, 32>,
 }
 
 impl Hold {
@@ -53,7 +54,7 @@ impl Hold {
 
     /// Takes the findings that a turn moves, and shows what follows from them, from the operations done
     /// before the tick and from what the other parts tell.
-    pub fn turn(&mut self, now: Tick, findings: &mut Lane<FindingGroup>, outside: &Outside)
+    pub fn turn(&mut self, now: Tick, findings: &mut Lane<FindingBlock>, outside: &Outside)
         requires { findings.old.quota ≤ 32 }
         ensures stands { MakesTurn self.old (turn_from now.0 findings.old outside.now) self.new }
         ensures lane { findings.new ≡ after_turn findings.old }
@@ -66,7 +67,7 @@ impl Hold {
     pub fn turn_and_compare(
         &mut self,
         now: Tick,
-        findings: &mut Lane<FindingGroup>,
+        findings: &mut Lane<FindingBlock>,
         outside: &Outside,
     ) -> bool
         requires { findings.old.quota ≤ 32 }
@@ -132,7 +133,7 @@ impl Hold {
     }
 
     // Takes the findings that a turn moves.
-    fn take_turn(&mut self, findings: &mut Lane<FindingGroup>)
+    fn take_turn(&mut self, findings: &mut Lane<FindingBlock>)
         requires { findings.old.quota ≤ 32 }
         ensures watches { WatchesMore self.old (moved_from findings.old) self.new }
         ensures settled { StaysSettled self.old self.new }
@@ -151,7 +152,7 @@ impl Hold {
     }
 
     // Takes the first findings, as many as a turn moves.
-    fn take_first(&mut self, findings: &mut Lane<FindingGroup>)
+    fn take_first(&mut self, findings: &mut Lane<FindingBlock>)
         requires { findings.old.quota ≤ 32 }
         ensures watches { WatchesMore self.old (moved_from findings.old) self.new }
         ensures settled { StaysSettled self.old self.new }
@@ -239,10 +240,10 @@ fn has_told(faults: &FaultSet, outside: &Outside) -> bool
 ghost use Rattle.panel_conditions.specs.Changes.{WatchesPointsMore, WatchesZonesMore, ZonesStaySettled};
 
 // Takes the findings of runs, one run after the other.
-fn take_runs(points: &mut Points, zones: &mut Zones, runs: &[Run<FindingGroup>])
+fn take_runs(points: &mut Points, zones: &mut Zones, runs: &[Run<FindingBlock>])
     requires { All HoldsItems runs.now }
-    ensures points { WatchesPointsMore points.old (all_items finding_at runs.now) points.new }
-    ensures zones { WatchesZonesMore zones.old (all_items finding_at runs.now) zones.new }
+    ensures points { WatchesPointsMore points.old (all_items block_finding_at runs.now) points.new }
+    ensures zones { WatchesZonesMore zones.old (all_items block_finding_at runs.now) zones.new }
     ensures settled { ZonesStaySettled zones.old zones.new }
     ensures moved { zones.new.moved ≡ zones.old.moved }
     ensures off { (points.new.off ≡ points.old.off) × (points.new.zone_off ≡ points.old.zone_off) }
@@ -250,8 +251,7 @@ fn take_runs(points: &mut Points, zones: &mut Zones, runs: &[Run<FindingGroup>])
         → (points.old.changed ≡ false) × (points.new.missing ≡ points.old.missing) }
 {
     for run in runs {
-        points.take_run(run);
-        zones.take_run(run);
+        take_run(points, zones, run);
     }
 }
 

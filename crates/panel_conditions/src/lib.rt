@@ -20,6 +20,7 @@
 #![tactic(auto)]
 
 mod asked;
+mod block_runs;
 mod hold;
 mod laws;
 mod loop_address;

@@ -2,6 +2,7 @@ ghost use Rattle.std.specs.Prelude.{◌≡◌, ◌-◌, ◌∷◌, ℕ, true, fa
 ghost use Rattle.std.specs.Prelude.{IfOk, Some, option_copied, map, slice_get, slice_index};
 ghost use Rattle.site_types.specs.Bits.{has_bit, no_set};
 ghost use Rattle.site_types.specs.Valid.{IsValid};
+ghost use Rattle.answer_lanes.specs.Blocks.{block_finding_at};
 ghost use Rattle.answer_lanes.specs.Points.{finding_at};
 ghost use Rattle.answer_lanes.specs.Runs.{HasShortCount, items_of};
 
@@ -10,7 +11,7 @@ use crate::loop_address::LoopAddress;
 use crate::point_sets::{put, without};
 use crate::point_switch::PointSwitch;
 use crate::told_missing::ToldMissing;
-use answer_lanes::{FindingGroup, Run};
+use answer_lanes::{FindingBlock, FindingGroup, Run};
 use coincidence_rules::Finding;
 use site_types::{Item, Operation, Point, PointSet, Retained, Site, Zone, has_bit_32};
 use std::alloc::Global;
@@ -36,8 +37,9 @@ pub struct Points {
 impl Points {
     ghost use Rattle.panel_conditions.specs.PointSets.{address_in};
     ghost use Rattle.panel_conditions.specs.Parts.{item_set, points_done, points_shown, points_taken};
-    ghost use Rattle.panel_conditions.specs.Changes.{WatchesPointsMore};
+    ghost use Rattle.panel_conditions.specs.Changes.{TakesPoints, WatchesPointsMore};
     ghost use Rattle.panel_conditions.specs.Stands.{WatchesPoints};
+    ghost use Rattle.panel_conditions.specs.Told.{block_run, eight_run};
 
     /// The points of a panel, of which nothing was found, with what is retained in force.
     pub fn new(alloc: Global, site: &Site, panel: u8, kept: &Retained) -> Result<Points, NoMemory>
@@ -89,6 +91,31 @@ impl Points {
         for place in run.taken..run.taken + run.count {
             self.take(&run.item(place));
         }
+    }
+
+    /// Takes note of the findings of a whole block. Where each tells of its point what was told of it last, nothing
+    /// changes.
+    pub fn take_block(&mut self, block: &FindingBlock)
+        ensures { TakesPoints (items_of block_finding_at (block_run block.now)) self.old self.new }
+    {
+        if self.told.has_block(block) {
+            return;
+        }
+        self.take_eight(block, 0);
+        self.take_eight(block, 1);
+        self.take_eight(block, 2);
+        self.take_eight(block, 3);
+    }
+
+    // Takes note of the findings of one of a block's eights.
+    fn take_eight(&mut self, block: &FindingBlock, number: u8)
+        ensures { TakesPoints (items_of finding_at (eight_run block.now number)) self.old self.new }
+    {
+        self.take_run(&Run {
+            first: block.eight(number),
+            taken: 0,
+            count: 8,
+        });
     }
 
     // Puts the point of a finding among the missing ones, or takes it out.

@@ -1,9 +1,9 @@
-ghost use Rattle.std.specs.Prelude.{◌≡◌, IfOk, Some, [], slice_get, true};
+ghost use Rattle.std.specs.Prelude.{◌≡◌, ◌<◌, IfOk, Some, [], slice_get, true};
 ghost use Rattle.answer_lanes.specs.Runs.{HasShortCount};
-ghost use Rattle.panel_conditions.specs.Told.{AreTold, MarksTold, TellMissing};
+ghost use Rattle.panel_conditions.specs.Told.{AreTold, AreToldInBlock, MarksTold, TellMissing, eight_run};
 
 use crate::next_bit::next_bit;
-use answer_lanes::{FindingGroup, PlaceSet, Run};
+use answer_lanes::{FindingBlock, FindingGroup, PlaceSet, Run};
 use site_types::has_bit_8;
 use std::alloc::Global;
 use std::marker::Model;
@@ -60,6 +60,26 @@ impl ToldMissing {
         }
         let others = self.missing.eight_within(first) ^ run.first.missing;
         others == 0 || next_bit(others as u32, run.taken) >= end
+    }
+
+    /// Whether the last finding of each point of one of a block's eights told it missing, or not, as the block does.
+    pub fn has_eight(&self, block: &FindingBlock, number: u8) -> bool
+        requires { number < 4 }
+        ensures { result ≡ true → AreTold self.now (eight_run block.now number) }
+    {
+        let first = block.firsts[number as usize] as usize;
+        first + 8 <= self.count
+            && self.missing.eight_within(first) == block.missing[number as usize]
+    }
+
+    /// Whether the last finding of each point of a block told it missing, or not, as the block does.
+    pub fn has_block(&self, block: &FindingBlock) -> bool
+        ensures { result ≡ true → AreToldInBlock self.now block.now }
+    {
+        self.has_eight(block, 0)
+            && self.has_eight(block, 1)
+            && self.has_eight(block, 2)
+            && self.has_eight(block, 3)
     }
 
     /// Marks what the finding of a point told.

@@ -1,15 +1,16 @@
 ghost use Rattle.std.specs.Prelude.{◌≡◌, ◌-◌, ◌^◌, ◌<◌, ◌≤◌, ℕ, map, length, slice_get, bit_or, nat_lt};
 ghost use Rattle.std.specs.Prelude.{if◌then◌else◌, IfOk, option_copied, option_map};
 ghost use Rattle.coincidence_rules.specs.Places.{numbered};
+ghost use Rattle.answer_lanes.specs.Blocks.{block_finding_at};
 ghost use Rattle.answer_lanes.specs.Points.{finding_at};
 ghost use Rattle.answer_lanes.specs.Runs.{HasShortCount, items_of};
 
 use crate::next_bit::lowest_bit;
 use crate::sign::Sign;
 use crate::signs::Signs;
-use crate::told_zones::{is_plain, is_shown, telling_at, telling_place, told};
+use crate::told_zones::{finding_of, is_plain, is_shown, tells_any, told};
 use crate::zone_watch::ZoneWatch;
-use answer_lanes::{FindingGroup, Run};
+use answer_lanes::{FindingBlock, FindingGroup, Run, Told};
 use coincidence_rules::Finding;
 use site_types::{Operation, Rule, Site, Zone, with_bit_32};
 use std::alloc::Global;
@@ -32,9 +33,10 @@ pub struct Zones {
 
 impl Zones {
     ghost use Rattle.panel_conditions.specs.Parts.{drawn_mask, later_tick, signs_at, told_by, watch_shows, zone_done};
-    ghost use Rattle.panel_conditions.specs.Parts.{IsPlain, IsPlainGroup, Marks, TellsPlainly, zone_taken_at};
-    ghost use Rattle.panel_conditions.specs.Changes.{TakesZoneRun, WatchesZonesMore, ZonesStaySettled};
+    ghost use Rattle.panel_conditions.specs.Parts.{IsPlain, Marks, TellsPlainly, finding_of, zone_taken_at};
+    ghost use Rattle.panel_conditions.specs.Changes.{TakesTold, TakesZones, WatchesZonesMore, ZonesStaySettled};
     ghost use Rattle.panel_conditions.specs.Stands.{Settled, ZonesTake, first_watch, are_first_watches};
+    ghost use Rattle.panel_conditions.specs.Told.{block_run, eight_run};
 
     /// The zones of a panel, of which nothing was told.
     pub fn new(alloc: Global, site: &Site, panel: u8) -> Result<Zones, NoMemory>
@@ -64,43 +66,56 @@ impl Zones {
         if run.first.telling == 0 {
             return;
         }
-        if is_plain(&run.first) {
-            self.take_plain_run(run);
+        if !tells_any(run) {
+            return;
+        }
+        let told = Told {
+            counted: run.first.counted,
+            confirmed: run.first.confirmed,
+            manual: run.first.manual,
+            released: run.first.released,
+        };
+        self.take_told(run.first.stamp, &told);
+    }
+
+    /// Takes note of the findings of a whole block, where any tells of zones.
+    pub fn take_block(&mut self, block: &FindingBlock)
+        ensures { TakesZones (items_of block_finding_at (block_run block.now)) self.old self.new }
+    {
+        let [first, second, third, fourth] = block.telling;
+        if first | second | third | fourth == 0 {
+            return;
+        }
+        self.take_eight(block, 0);
+        self.take_eight(block, 1);
+        self.take_eight(block, 2);
+        self.take_eight(block, 3);
+    }
+
+    // Takes note of the findings of one of a block's eights, where any tells of zones.
+    fn take_eight(&mut self, block: &FindingBlock, number: u8)
+        requires { number < 4 }
+        ensures { TakesZones (items_of finding_at (eight_run block.now number)) self.old self.new }
+    {
+        let place = number as usize;
+        if block.telling[place] == 0 {
+            return;
+        }
+        self.take_told(block.stamp, &block.told[place]);
+    }
+
+    // Takes note of what findings to an asking tell of zones.
+    fn take_told(&mut self, stamp: Tick, told: &Told)
+        ensures { TakesTold (finding_of stamp told.now) self.old self.new }
+    {
+        let finding = finding_of(stamp, told);
+        if is_plain(&finding) {
+            self.take_plain(&finding);
+            self.mark_plain(&finding);
         } else {
-            self.take_mixed_run(run);
+            self.take_each(&finding);
+            self.mark(&finding);
         }
-    }
-
-    // Takes note of the findings of a run, where those that tell of zones confirm them plainly.
-    fn take_plain_run(&mut self, run: &Run<FindingGroup>)
-        requires short { HasShortCount run.now }
-        requires some { 0 < run.now.first.telling }
-        requires plain { IsPlainGroup run.now.first }
-        ensures { TakesZoneRun run.now self.old self.new }
-    {
-        if run.first.confirmed == 0 {
-            return;
-        }
-        let Some(place) = telling_place(run) else {
-            return;
-        };
-        let finding = telling_at(&run.first, place);
-        self.take_plain(&finding);
-        self.mark_plain(&finding);
-    }
-
-    // Takes note of the findings of a run, whatever those that tell of zones tell of them.
-    fn take_mixed_run(&mut self, run: &Run<FindingGroup>)
-        requires short { HasShortCount run.now }
-        requires some { 0 < run.now.first.telling }
-        ensures { TakesZoneRun run.now self.old self.new }
-    {
-        let Some(place) = telling_place(run) else {
-            return;
-        };
-        let finding = telling_at(&run.first, place);
-        self.take_each(&finding);
-        self.mark(&finding);
     }
 
     // Takes note of a finding that confirms zones plainly.

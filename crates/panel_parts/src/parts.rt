@@ -4,7 +4,7 @@ ghost use Rattle.site_types.specs.Changes.{IsNumber};
 ghost use Rattle.loop_poller.specs.Stands.{HasPoint};
 ghost use Rattle.panel_rules.specs.Moments.{IsPanel};
 
-use answer_lanes::{AnswerGroup, FindingGroup, Lane};
+use answer_lanes::{AnswerBlock, FindingBlock, Lane};
 use cause_effect::Plan;
 use coincidence::Decide;
 use loop_poller::Poller;
@@ -23,8 +23,8 @@ pub struct Parts {
     pub poller: Poller,
     pub decide: Decide,
     pub hold: Hold,
-    pub answers: Lane<AnswerGroup>,
-    pub findings: Lane<FindingGroup>,
+    pub answers: Lane<AnswerBlock>,
+    pub findings: Lane<FindingBlock>,
     pub supply: Supply,
     pub effects: Effects,
     pub drive: Drive,

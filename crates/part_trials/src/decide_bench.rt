@@ -2,7 +2,7 @@
 
 ghost use Rattle.std.specs.Prelude.{◌≡◌, true, IfOk};
 
-use answer_lanes::{AnswerGroup, FindingGroup, Lane, take_items};
+use answer_lanes::{AnswerBlock, FindingBlock, Lane, take_items};
 use anyhow::{Result, bail};
 use arrayvec::ArrayVec;
 use coincidence::{Decide, Finding};
@@ -16,8 +16,8 @@ pub(crate) struct DecideBench {
     site: Site,
     panel: u8,
     decide: Decide,
-    answers: Lane<AnswerGroup>,
-    findings: Lane<FindingGroup>,
+    answers: Lane<AnswerBlock>,
+    findings: Lane<FindingBlock>,
     /// The last answer given: its tick and its point.
     stamp: Tick,
     point: u16,

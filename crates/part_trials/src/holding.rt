@@ -4,7 +4,7 @@ ghost use Rattle.std.specs.Prelude.{◌≡◌};
 ghost use Rattle.site_types.specs.Valid.{IsValid};
 
 use crate::hold_step::HoldStep;
-use answer_lanes::{FindingGroup, Lane};
+use answer_lanes::{FindingBlock, Lane};
 use anyhow::{Result, bail};
 use face_text::Face;
 use panel_conditions::{Finding, Hold, Outside};
@@ -68,7 +68,7 @@ fn take_tick(
     Ok(())
 }
 
-fn put(findings: &mut Lane<FindingGroup>, finding: Finding) -> Result<()>
+fn put(findings: &mut Lane<FindingBlock>, finding: Finding) -> Result<()>
     requires { (findings.old.quota ≡ 32) × (findings.old.capacity ≡ 64) }
     ensures { (findings.new.quota ≡ 32) × (findings.new.capacity ≡ 64) }
 {

@@ -7,7 +7,7 @@ ghost use Rattle.loop_poller.specs.Calls.{Call};
 ghost use Rattle.loop_poller.specs.Stands.{StandsFor};
 
 use crate::poll_step::PollStep;
-use answer_lanes::{AnswerGroup, Lane, take_items};
+use answer_lanes::{AnswerBlock, Lane, take_items};
 use anyhow::{Result, bail};
 use arrayvec::ArrayVec;
 use loop_poller::Poller;
@@ -96,7 +96,7 @@ pub(crate) fn answers_at(alloc: Global, site: &Site, poller: &Poller, tick: u64)
 }
 
 // Puts the answers of a tick into a lane.
-fn ask(_site: &Site, poller: &Poller, tick: u64, lane: &mut Lane<AnswerGroup>)
+fn ask(_site: &Site, poller: &Poller, tick: u64, lane: &mut Lane<AnswerBlock>)
     requires stands { (calls : List Call) × StandsFor _site.now 1 calls poller.now }
     requires room { HasRoom lane.old 32 }
     requires few { lane.old.quota ≤ 32 }

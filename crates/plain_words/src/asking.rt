@@ -4,7 +4,7 @@ ghost use Rattle.panel_rules.specs.Moments.{Moment as MomentOf, tick_of};
 ghost use Rattle.panel_rules.specs.Zones.{held_answers};
 ghost use Rattle.plain_history.specs.Histories.{moment_of};
 
-use answer_lanes::{AnswerGroup, Lane, Run, take_items};
+use answer_lanes::{AnswerBlock, Lane, Run, take_items};
 use arrayvec::ArrayVec;
 use loop_poller::Poller;
 use plain_history::Moment;
@@ -150,9 +150,9 @@ impl Asking {
             → StandsForAsking site.now panel history self.old → tick_of history ≡ tick.0
             → StandsForAsking site.now panel (TurnedOf panel PollTask ∷ history) self.new) }
     {
-        let mut lane: Lane<AnswerGroup> = Lane::new(alloc, 32, 32)?;
+        let mut lane: Lane<AnswerBlock> = Lane::new(alloc, 32, 32)?;
         self.poller.turn(tick, &mut lane);
-        let mut runs: ArrayVec<Run<AnswerGroup>, 32> = ArrayVec::new();
+        let mut runs: ArrayVec<Run<AnswerBlock>, 32> = ArrayVec::new();
         let mut batch: ArrayVec<Answer, 32> = ArrayVec::new();
         take_items(&mut lane, &mut runs, &mut batch);
         self.answers.extend_from_slice(batch.as_slice())?;

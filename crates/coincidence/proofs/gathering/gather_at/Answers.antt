@@ -9,8 +9,8 @@ use Rattle.coincidence.proofs.Turned.{put_both}
 use Rattle.coincidence.proofs.gathering.gather_at.Goals.{then-not-can_have, else-not-can_have}
 use Rattle.coincidence.proofs.gathering.gather_at.Goals as goal
 
-pub put_run-requires-clause-room : goal.put_run-requires-clause-room
-put_run-requires-clause-room c = subst (HasRoom c.args.findings.now) (length_run finding_at c.args.found.now) c.requires.room
+pub put_eight-requires-clause-room : goal.put_eight-requires-clause-room
+put_eight-requires-clause-room c = subst (HasRoom c.args.findings.now) (length_run finding_at c.args.found.now) c.requires.room
 
 pub set-requires : goal.set-requires
 set-requires c =
@@ -42,7 +42,7 @@ returns-clause-put c =
     (λ k. c.set.ensures k ∙ ap (λ n. if k == n then finding else finding_at found.first k) at))
     ∙ elim c.if-not-can_have.branch [
       | then-not-can_have w ↦ ap (λ r. with_put c.if-not-can_have.findings (items_of finding_at r ++ finding ∷ [])) w.found-is
-          ∙ ap (λ l. with_put l (finding ∷ [])) (w.findings-is ∙ w.put_run.ensures) ∙ put_both lane (items_of finding_at old) (finding ∷ [])
+          ∙ ap (λ l. with_put l (finding ∷ [])) (w.findings-is ∙ w.put_eight.ensures) ∙ put_both lane (items_of finding_at old) (finding ∷ [])
       | else-not-can_have w ↦ ap (λ r. with_put c.if-not-can_have.findings (items_of finding_at r ++ finding ∷ [])) w.found-is
           ∙ ap (λ l. with_put l (items_of finding_at old ++ finding ∷ [])) w.findings-is
     ]

@@ -53,8 +53,8 @@ loop-left-preserved c =
       known = subst (λ a. KnowsZone a.stamp.0 c.take_near-finding.new.self c.take_near-finding.new.known) c.item.ensures c.take_near-finding.ensures.known;
     }
 
-pub put_run-requires-clause-room : goal.put_run-requires-clause-room
-put_run-requires-clause-room c =
+pub put_eight-requires-clause-room : goal.put_eight-requires-clause-room
+put_eight-requires-clause-room c =
     let run = c.args.run.now in
     let l = c.loop-left in
     let count = length_run answer_at run in
@@ -67,6 +67,6 @@ put_run-requires-clause-room c =
 pub returns : goal.returns
 returns c = record {
   taken = all_taken c.loop-left.invariant.passes c.loop-left-test.false;
-  put = subst (PutsFindings c.args.self.now (items_of answer_at c.args.run.now) c.args.findings.now) (sym c.put_run.ensures)
+  put = subst (PutsFindings c.args.self.now (items_of answer_at c.args.run.now) c.args.findings.now) (sym c.put_eight.ensures)
       (all_found c.loop-left.invariant.passes c.loop-left-test.false);
 }

@@ -19,7 +19,7 @@ loop-place-init c =
       put =
           subst (λ fs. PutsFindings old (before c.args.run.now c.args.run.now.taken) lane (with_put lane fs)) (sym c.none-found.ensures.items)
           (subst (λ xs. PutsFindings old xs lane (with_put lane [])) none (subst (PutsFindings old [] lane) (put_none lane) (puts_none old lane)));
-      short = c.none-found.ensures.short;
+      eight = c.none-found.ensures.eight;
     }
 
 pub take-finding-requires : goal.take-finding-requires
@@ -57,7 +57,7 @@ loop-place-preserved c =
           (puts_one l.self c.item.result c.take-finding.result (with_put l.findings held)
           (with_put c.gather.new.findings (items_of finding_at c.gather.new.found)) c.take-finding.ensures.found
           (c.gather.ensures.put ∙ sym (put_both l.findings held (c.take-finding.result ∷ []))));
-      short = c.gather.ensures.short;
+      eight = c.gather.ensures.eight;
     }
 
 -- behind the last place all are taken, and their findings lie in the lane or in the run that is gathered
@@ -73,19 +73,19 @@ all_found c =
     let l = c.loop-place in
     subst (λ xs. PutsFindings c.args.self.now xs c.args.findings.now (with_put l.findings (items_of finding_at l.found))) (at_end c) l.invariant.put
 
-pub put_run-requires-clause-room : goal.put_run-requires-clause-room
-put_run-requires-clause-room c =
+pub put_eight-requires-clause-room : goal.put_eight-requires-clause-room
+put_eight-requires-clause-room c =
     let run = c.args.run.now in
     let l = c.loop-place in
     let count = length_run answer_at run in
     subst (HasRoom l.findings) (length_run finding_at l.found)
     (held_behind c.args.self.now (items_of answer_at run) c.args.findings.now l.findings (items_of finding_at l.found) run.count c.requires.may
-    (all_found (goal.at.put_run-requires-clause-room c).After-loop-place) c.requires.room (omega (arith, count)))
+    (all_found (goal.at.put_eight-requires-clause-room c).After-loop-place) c.requires.room (omega (arith, count)))
 
 pub returns : goal.returns
 returns c =
     let past = (goal.at.returns c).After-loop-place in
     record {
       taken = subst (λ xs. TakesAnswers c.args.self.now xs c.loop-place.self) (at_end past) c.loop-place.invariant.taken;
-      put = subst (PutsFindings c.args.self.now (items_of answer_at c.args.run.now) c.args.findings.now) (sym c.put_run.ensures) (all_found past);
+      put = subst (PutsFindings c.args.self.now (items_of answer_at c.args.run.now) c.args.findings.now) (sym c.put_eight.ensures) (all_found past);
     }

@@ -9,8 +9,8 @@ pub part_going_on-part-requires-clause-going : goal.part_going_on-part-requires-
 part_going_on-part-requires-clause-going c =
     fewer_go_on c.args.self.now c.args.run.now c.args.changing c.loop-left.left c.requires.going c.loop-left.invariant.among
 
-pub put_run-requires-clause-room : goal.put_run-requires-clause-room
-put_run-requires-clause-room c =
+pub put_eight-requires-clause-room : goal.put_eight-requires-clause-room
+put_eight-requires-clause-room c =
     let h = c.loop-left.invariant in
     let low = c.lowest_bit_or.ensures in
     let ends : EndsPart c.args.run.now.count c.part_going_on-part.result.behind c.lowest_bit_or.result =
@@ -25,7 +25,7 @@ loop-left-preserved c =
     let ends : EndsPart c.args.run.now.count c.part_going_on-part.result.behind c.lowest_bit_or.result =
     record { set = low.set; none = low.none; otherwise = low.otherwise } in
     part_told h c.requires.tells c.part_going_on-part.result c.part_going_on-part.ensures c.lowest_bit_or.result ends c.telling_group.result
-    c.telling_group.ensures c.put_run.new.self c.put_run.ensures
+    c.telling_group.ensures c.put_eight.new.findings c.put_eight.ensures
 
 pub returns : goal.returns
 returns c = all_told c.loop-left.invariant c.loop-left-test.false

@@ -1,7 +1,7 @@
 use Rattle.std.proofs.Common.{◌≡◌, ◌++◌, [], List, append-nil, refl, sym, ◌∙◌, ap, subst}
 use Rattle.tick_units.specs.Lane.{LaneState}
 use Rattle.site_types.specs.declared.answer.Answer.{Answer}
-use Rattle.answer_lanes.specs.Points.{answer_at}
+use Rattle.answer_lanes.specs.Blocks.{block_answer_at}
 use Rattle.answer_lanes.specs.Runs.{all_items}
 use Rattle.coincidence.specs.Changes.{PutsFindings, TakesAnswers}
 use Rattle.coincidence.specs.Stands.{taken_by}
@@ -17,14 +17,14 @@ pub take_runs-requires-clause-room : goal.take_runs-requires-clause-room
 take_runs-requires-clause-room c =
     let self = c.args.self.now in
     let lane = c.args.findings.now in
-    let items = all_items answer_at c.in-Some.runs.now in
+    let items = all_items block_answer_at c.in-Some.runs.now in
     room_next self self _ [] items items [] refl (nothing_more c.args.answers.now items c.in-Some.ensures.moved) lane lane 32 c.requires.may
     (puts_none self lane) c.requires.room (few_taken c.args.answers.now _ refl c.requires.quota)
 
 pub take_runs-requires-clause-may : goal.take_runs-requires-clause-may
 take_runs-requires-clause-may c =
     let self = c.args.self.now in
-    let items = all_items answer_at c.in-Some.runs.now in
+    let items = all_items block_answer_at c.in-Some.runs.now in
     can_next self self _ [] items items [] refl (nothing_more c.args.answers.now items c.in-Some.ensures.moved) c.requires.may (takes_none self)
 
 pub returns-in-Some-clause-taken : goal.returns-in-Some-clause-taken
@@ -39,4 +39,4 @@ returns-in-Some-clause-findings c =
 pub returns-clause-taken : goal.returns-clause-taken
 returns-clause-taken c =
     subst (λ xs. TakesAnswers c.args.self.now xs c.take_runs-2.new.self)
-    (ap (all_items answer_at) c.as_slice.ensures.value ∙ c.take_turn.ensures.moved) c.take_runs-2.ensures.taken
+    (ap (all_items block_answer_at) c.as_slice.ensures.value ∙ c.take_turn.ensures.moved) c.take_runs-2.ensures.taken

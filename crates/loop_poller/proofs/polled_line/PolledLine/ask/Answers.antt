@@ -1,4 +1,4 @@
-use Rattle.std.proofs.Common.{◌≡◌, ◌∙◌, ap, sym, ◌+◌, ◌-◌, ◌%◌, ◌<◌, ◌++◌, ◌∷◌, [], length, arith, Some, None, option_map}
+use Rattle.std.proofs.Common.{◌≡◌, ◌∙◌, ap, sym, ◌+◌, ◌-◌, ◌%◌, ◌<◌, ◌++◌, ◌∷◌, [], length, arith, Some, None, option_map, ◌/◌, slice_get}
 use Rattle.std.specs.List.{filter_map, range_with_len}
 use Rattle.tick_units.specs.Lane.{with_put}
 use Rattle.site_types.specs.Profile.{round_of}
@@ -32,9 +32,12 @@ pub returns-in-Some-clause-put : goal.returns-in-Some-clause-put
 returns-in-Some-clause-put c site panel line points cables valid stands states from =
     let group = c.in-Some.group in
     let sound = if_some (IsSoundGroup c.args.self.now c.args.first) c.sound_group.result group c.sound_group.ensures c.in-Some.is in
-    c.put_answers.ensures.put (group_within site panel line points cables c.args.now.0 c.args.self.now c.args.states.now c.args.first group valid stands states from sound)
-    ∙ ap (with_put c.args.answers.now) (sym (group_asked site panel line points cables c.args.now.0 c.args.self.now c.args.states.now c.args.first group
-    valid stands states from sound))
+    let number : c.args.now.0 % round_of site.format ≡ (c.args.first - 1) / 8 = omega (arith, from) in
+    let is : slice_get c.args.self.now.groups.items (c.args.now.0 % round_of site.format) ≡ Some (Some group) =
+    ap (slice_get c.args.self.now.groups.items) number ∙ sound.is in
+    c.put_answers.ensures.put (group_within site panel line points cables c.args.now.0 c.args.self.now c.args.states.now group valid stands states is)
+    ∙ ap (with_put c.args.answers.now) (sym (group_asked site panel line points cables c.args.now.0 c.args.self.now c.args.states.now group
+    valid stands states is (sound.sound.whole site panel line (cables line) stands) (sound.sound.unshorted site panel line (cables line) stands)))
 
 pub loop-address-preserved : goal.loop-address-preserved
 loop-address-preserved c =

@@ -11,9 +11,10 @@ returns c =
     record {
       asks = record {
         valid = c.requires;
-        format = c.profile.ensures;
+        format = c.profile-profile.ensures;
         lines =
             four_lines c.args.site.now c.args.panel _ _ _ _ c.in_ok-new.ensures c.in_ok-new-2.ensures c.in_ok-new-3.ensures c.in_ok-new-4.ensures;
+        blocks = c.in_ok-blocks.ensures;
         states = record {
           size = ap length c.in_ok-states.ensures ∙ length-replicate c.len.result Quiet ∙ c.len.ensures;
           each = λ point within. ap (λ xs. slice_index_or xs point Quiet) c.in_ok-states.ensures ∙ get_or-replicate

@@ -1,70 +1,24 @@
-use Rattle.std.proofs.Common.{◌≡◌, ◌+◌, ◌*◌, ◌%◌, ◌<◌, arith, get_or, ap, ◌∙◌}
-use Rattle.std.proofs.lemmas.Nat.{mod_below}
+use Rattle.std.proofs.Common.{◌≡◌, ◌%◌, ap, subst, ◌∙◌, get_or}
 use Rattle.std.proofs.lemmas.Option.{slice_get-get_or}
-use Rattle.tick_units.specs.Lane.{LaneState}
-use Rattle.site_types.specs.declared.answer.Answer.{Answer}
+use Rattle.tick_units.specs.Lane.{with_put}
 use Rattle.site_types.specs.Profile.{round_of}
-use Rattle.loop_poller.specs.Asked.{asked_in, asked_on}
-use Rattle.loop_poller.specs.Calls.{told_cable, told_point}
-use Rattle.loop_poller.proofs.Lanes.{put_line}
-use Rattle.loop_poller.proofs.Lines.{knows_points}
-use Rattle.loop_poller.proofs.Places.{asked_few}
+use Rattle.loop_poller.specs.Stands.{IsSoundBlock}
+use Rattle.loop_poller.proofs.AskedBlocks.{block_asked, groups_within}
 use Rattle.loop_poller.proofs.poller.Poller.turn.Goals as goal
 
-pub ask-requires-clause-room : goal.ask-requires-clause-room
-ask-requires-clause-room c =
-    let room = c.requires.room in
-    c.loop-line.invariant.room 8 (omega (arith, room.0), omega (arith, room.1))
-
-pub ask-requires-clause-within : goal.ask-requires-clause-within
-ask-requires-clause-within c =
+pub put_block-requires-clause-within : goal.put_block-requires-clause-within
+put_block-requires-clause-within c k d below =
     let some = c.requires.stands in
-    let k = c.loop-line.line-index in
-    let lines = c.args.self.now.lines in
-    let size = (some.asks.lines k (get_or lines k c.line-item.result) (slice_get-get_or lines k c.line-item.result (omega arith))).points.size in
-    let known = some.asks.valid.forms.format.0 in
+    let groups = c.in-Some.groups.now in
     let round : c.round.result ≡ round_of some.site.format = c.round.ensures ∙ ap round_of some.asks.format in
-    let below : c.args.now.0 % c.round.result < c.round.result = mod_below c.args.now.0 c.round.result (omega arith) in
-    omega (arith, size)
+    let block = subst (λ r. IsSoundBlock c.args.self.now (c.args.now.0 % r) groups) round c.in-Some.ensures in
+    groups_within some.site some.panel some.calls c.args.self.now c.args.now.0 groups some.asks block k (get_or groups k d)
+    (slice_get-get_or groups k d below)
 
-pub ask-requires-clause-known : goal.ask-requires-clause-known
-ask-requires-clause-known c place point h =
-    let some = c.requires.stands in
-    let k = c.loop-line.line-index in
-    let lines = c.args.self.now.lines in
-    let stands = some.asks.lines k (get_or lines k c.line-item.result) (slice_get-get_or lines k c.line-item.result (omega arith)) in
-    let below = knows_points some.site some.panel (k + 1) _ stands.points place point h in
-    let states = some.asks.states.size in
-    omega (arith, below, states)
-
-pub loop-line-preserved : goal.loop-line-preserved
-loop-line-preserved c =
-    let k = c.loop-line.line-index in
-    let lines = c.args.self.now.lines in
-    record {
-      room = λ n room. c.ask.ensures.room n (c.loop-line.invariant.room (n + 8) (omega (arith, room.0), omega (arith, room.1)));
-      put = λ site panel calls stands.
-          let line = stands.lines k (get_or lines k c.line-item.result) (slice_get-get_or lines k c.line-item.result (omega arith)) in
-          let round : c.round.result ≡ round_of site.format = c.round.ensures ∙ ap round_of stands.format in
-          let from : (c.args.now.0 % c.round.result) * 8 + 1 ≡ 8 * (c.args.now.0 % round_of site.format) + 1 =
-          ap (λ r. (c.args.now.0 % r) * 8 + 1) round ∙ omega arith in
-          put_line (asked_on site panel (told_point calls) (told_cable calls) c.args.now.0) k c.args.answers.now c.loop-line.answers c.ask.new.answers
-          (c.loop-line.invariant.put site panel calls stands)
-          (c.ask.ensures.put site panel (k + 1) (told_point calls) (told_cable calls) stands.valid line
-          stands.states from);
-    }
-
-pub returns-clause-asked : goal.returns-clause-asked
-unfolding asked_in
-returns-clause-asked c site panel calls stands =
-    let all : c.loop-line.line-index ≡ 4 = omega arith in
-    rw all at (c.loop-line.invariant.put site panel calls stands.asks)
-
-pub returns-clause-few : goal.returns-clause-few
-unfolding asked_in
-returns-clause-few c =
-    let some = c.requires.stands in
-    let all : c.loop-line.line-index ≡ 4 = omega arith in
-    let put = rw all at (c.loop-line.invariant.put some.site some.panel some.calls some.asks) in
-    let few = asked_few some.site some.panel (told_point some.calls) (told_cable some.calls) c.args.now.0 some.asks.valid.forms.format.0 in
-    omega (arith, ap (λ (l : LaneState Answer). l.put) put, few)
+pub returns-in-Some-clause-asked : goal.returns-in-Some-clause-asked
+returns-in-Some-clause-asked c site panel calls stands =
+    let groups = c.in-Some.groups.now in
+    let round : c.round.result ≡ round_of site.format = c.round.ensures ∙ ap round_of stands.asks.format in
+    let block = subst (λ r. IsSoundBlock c.args.self.now (c.args.now.0 % r) groups) round c.in-Some.ensures in
+    c.put_block.ensures.put ∙ ap (with_put c.args.answers.now)
+    (block_asked site panel calls c.args.self.now c.args.now.0 groups stands.asks block stands.faults)

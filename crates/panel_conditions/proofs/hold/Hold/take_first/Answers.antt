@@ -1,13 +1,13 @@
 use Rattle.std.proofs.Common.{◌≡◌, ◌∙◌, refl, ap, subst}
-use Rattle.answer_lanes.specs.Points.{finding_at}
+use Rattle.answer_lanes.specs.Blocks.{block_finding_at}
 use Rattle.answer_lanes.specs.Runs.{all_items}
 use Rattle.panel_conditions.specs.Changes.{WatchesPointsMore, WatchesZonesMore, moved_from}
 use Rattle.panel_conditions.proofs.hold.Hold.take_first.Goals as goal
 
 pub returns-clause-watches : goal.returns-clause-watches
 returns-clause-watches c site kept panel done taken h =
-    let found : all_items finding_at c.as_slice.result.now ≡ moved_from c.args.findings.now =
-    ap (all_items finding_at) c.as_slice.ensures.value ∙ c.take_turn.ensures.moved in
+    let found : all_items block_finding_at c.as_slice.result.now ≡ moved_from c.args.findings.now =
+    ap (all_items block_finding_at) c.as_slice.ensures.value ∙ c.take_turn.ensures.moved in
     record {
       zones = subst (λ l. WatchesZonesMore c.args.self.now.zones l c.take_runs.new.zones) found c.take_runs.ensures.zones site panel done taken h.zones;
       points =

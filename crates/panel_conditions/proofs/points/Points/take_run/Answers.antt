@@ -17,7 +17,7 @@ loop-place-preserved c =
     record {
       from = let from = l.invariant.from in omega (arith, from);
       watches = λ site kept panel done taken h.
-          item_more (λ found. WatchesPoints site kept panel done found c.take.new.self) taken run l.place c.item.result l.invariant.from
+          item_more finding_at (λ found. WatchesPoints site kept panel done found c.take.new.self) taken run l.place c.item.result l.invariant.from
           c.item.ensures
           (c.take.ensures.watches site kept panel done (taken ++ before) (l.invariant.watches site kept panel done taken h));
       missing = λ same.

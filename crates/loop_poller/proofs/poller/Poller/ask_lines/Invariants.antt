@@ -5,7 +5,7 @@ use Rattle.site_types.specs.declared.site.Site.{Site as SiteOf}
 use Rattle.loop_poller.specs.Asked.{asked_on}
 use Rattle.loop_poller.specs.Calls.{Call, told_cable, told_point}
 use Rattle.loop_poller.specs.Stands.{AsksFor}
-use Rattle.loop_poller.proofs.poller.Poller.turn.Given as goal
+use Rattle.loop_poller.proofs.poller.Poller.ask_lines.Given as goal
 
 abbrev pub invariant-loop-line : goal.invariant-loop-line
 invariant-loop-line l = record {

@@ -1,0 +1,65 @@
+-- Answers of whole eights and blocks that change nothing of what is kept, and what is told of them at once.
+use Rattle.std.specs.Prelude.{◌≡◌, ◌<◌, ◌≤◌, ℕ, [], ◌∷◌, List, slice_index}
+use Rattle.tick_units.specs.Lane.{LaneState, with_put}
+use Rattle.site_types.specs.declared.answer.Answer.{Answer}
+use Rattle.answer_lanes.specs.declared.answer_block.AnswerBlock.{AnswerBlock}
+use Rattle.answer_lanes.specs.declared.answer_group.AnswerGroup.{AnswerGroup}
+use Rattle.answer_lanes.specs.declared.finding_block.FindingBlock.{FindingBlock}
+use Rattle.answer_lanes.specs.declared.finding_group.FindingGroup.{FindingGroup}
+use Rattle.answer_lanes.specs.declared.run.Run.{Run}
+use Rattle.answer_lanes.specs.Blocks.{block_answer_at, block_finding_at, eight_found, eight_of}
+use Rattle.answer_lanes.specs.Points.{answer_at, finding_at}
+use Rattle.answer_lanes.specs.Runs.{items_of}
+use Rattle.site_types.specs.Bits.{has_bit}
+use Rattle.coincidence_rules.specs.Counted.{is_silent}
+use Rattle.coincidence_rules.specs.declared.finding.Finding.{Finding}
+use Rattle.coincidence.specs.declared.decide.Decide.{Decide}
+use Rattle.coincidence.specs.Changes.{PutsFindings, TakesAnswers}
+use Rattle.coincidence.specs.Resting.{IsPlainAt, TellsChanging}
+
+-- all that an eight holds
+abbrev pub all_of_eight : {S : Type 0} → S → Run S
+all_of_eight eight = record { first = eight; taken = 0; count = 8 }
+
+-- all that a block holds
+abbrev pub all_of_block : {S : Type 0} → S → Run S
+all_of_block block = record { first = block; taken = 0; count = 32 }
+
+-- the points of each eight of a block have different numbers
+abbrev pub HasNumberedPoints : AnswerBlock → Type 0
+HasNumberedPoints block = (number : ℕ) → number < 4 → slice_index block.firsts number ≤ 65527
+
+-- a byte for each eight of a block tells which of its answers may change what is kept of their points
+abbrev pub TellChanging : Decide → AnswerBlock → List ℕ → Type 0
+TellChanging decide block bytes =
+    (number : ℕ) → number < 4 → TellsChanging decide (all_of_eight (eight_of block number)) (slice_index bytes number)
+
+-- the bits of a byte for each eight of a block are set of those of its answers that are silent
+abbrev pub AreSilentIn : AnswerBlock → List ℕ → Type 0
+AreSilentIn block bytes =
+    (number k : ℕ) → number < 4 → has_bit (slice_index bytes number) k ≡ is_silent ((answer_at (eight_of block number) k).heard)
+
+-- what is found of all answers of a block is plain
+abbrev pub IsPlainBlock : AnswerBlock → FindingBlock → Type 0
+IsPlainBlock block found =
+    (number : ℕ) → number < 4 → (k : ℕ) → IsPlainAt k (eight_of block number) (eight_found found number)
+
+-- all answers of a block are quiet
+pub record IsQuietBlock (block : AnswerBlock) : Type 0 where
+  pub alarms : block.alarms ≡ 0 ∷ 0 ∷ 0 ∷ 0 ∷ []
+  pub silents : block.silents ≡ 0 ∷ 0 ∷ 0 ∷ 0 ∷ []
+
+-- some answers leave all that is kept as it is, and these findings are theirs
+pub record AreSteady (decide : Decide) (answers : List Answer) (found : List Finding) : Type 0 where
+  pub taken : TakesAnswers decide answers decide
+  pub put : (lane : LaneState Finding) → PutsFindings decide answers lane (with_put lane found)
+
+-- the answers of an eight are so, and a group of the tick in which they were asked has their findings
+pub record IsSteadyEight (decide : Decide) (answers : AnswerGroup) (found : FindingGroup) : Type 0 where
+  pub stamp : found.stamp ≡ answers.stamp
+  pub steady : AreSteady decide (items_of answer_at (all_of_eight answers)) (items_of finding_at (all_of_eight found))
+
+-- the answers of a block leave all that is kept as it is, and another block has their findings
+abbrev pub IsSteadyBlock : Decide → AnswerBlock → FindingBlock → Type 0
+IsSteadyBlock decide block found =
+    AreSteady decide (items_of block_answer_at (all_of_block block)) (items_of block_finding_at (all_of_block found))

@@ -1,0 +1,267 @@
+//! Runs of blocks: taken eight by eight, or passed over at once.
+
+ghost use Rattle.std.specs.Prelude.{◌≡◌, ◌<◌, ◌≤◌, ◌+◌, [], ◌∷◌, IfSome, false, true};
+ghost use Rattle.answer_lanes.specs.Blocks.{block_answer_at, eight_of};
+ghost use Rattle.answer_lanes.specs.Points.{answer_at};
+ghost use Rattle.answer_lanes.specs.Runs.{front_of, items_of};
+
+use crate::decide::Decide;
+use crate::rules::{plain_block, plain_group, quiet_block, telling_group};
+use answer_lanes::{AnswerBlock, AnswerGroup, FindingBlock, FindingGroup, Lane, Run};
+
+impl Decide {
+    ghost use Rattle.coincidence.specs.Changes.{CanTakeAnswerRun, CanTakeRunOf, TakesAnswerRun, TakesRunOf};
+    ghost use Rattle.coincidence.specs.Resting.{TellsChanging};
+    ghost use Rattle.coincidence.specs.Stands.{CanTake};
+    ghost use Rattle.coincidence.specs.Steady.{HasNumberedPoints, IsQuietBlock, IsSteadyBlock, IsSteadyEight};
+    ghost use Rattle.coincidence.specs.Steady.{TellChanging, all_of_block, all_of_eight};
+
+    // Puts the findings of a run of a block whose answers change nothing of what is kept. Tells whether it is such a
+    // run, and leaves any other one as it is.
+    pub(crate) fn passes_at_once(
+        &self,
+        run: &Run<AnswerBlock>,
+        findings: &mut Lane<FindingBlock>,
+    ) -> bool
+        requires { CanTakeRunOf block_answer_at self.now run.now findings.old }
+        ensures passed { result ≡ true
+            → TakesRunOf block_answer_at self.now run.now findings.old self.now findings.new }
+        ensures other { result ≡ false → findings.new ≡ findings.old }
+    {
+        if run.taken == 0 && run.count == 32 {
+            return self.passes_block(&run.first, findings);
+        }
+        self.passes_part(run, findings)
+    }
+
+    // Puts the findings of a run within one eight of a block whose answers change nothing of what is kept. Tells whether
+    // it is such a run, and leaves any other one as it is. It stands apart from the way of whole blocks, so that it need
+    // not share registers with it.
+    #[inline(never)]
+    fn passes_part(&self, run: &Run<AnswerBlock>, findings: &mut Lane<FindingBlock>) -> bool
+        requires { CanTakeRunOf block_answer_at self.now run.now findings.old }
+        ensures passed { result ≡ true
+            → TakesRunOf block_answer_at self.now run.now findings.old self.now findings.new }
+        ensures other { result ≡ false → findings.new ≡ findings.old }
+    {
+        let eight = first_eight(run);
+        if eight.count < run.count {
+            return false;
+        }
+        self.passes(&eight, findings)
+    }
+
+    // Puts the findings of a whole block whose answers change nothing of what is kept, in one step. Tells whether it is
+    // such a block, and leaves any other one as it is.
+    fn passes_block(&self, block: &AnswerBlock, findings: &mut Lane<FindingBlock>) -> bool
+        requires { CanTakeRunOf block_answer_at self.now (all_of_block block.now) findings.old }
+        ensures passed { result ≡ true
+            → TakesRunOf block_answer_at self.now (all_of_block block.now) findings.old self.now
+            findings.new }
+        ensures other { result ≡ false → findings.new ≡ findings.old }
+    {
+        if !has_numbers(block) {
+            return false;
+        }
+        if is_quiet(block) && self.all_rest(block) {
+            findings.put_run(Run {
+                first: quiet_block(block),
+                taken: 0,
+                count: 32,
+            });
+            return true;
+        }
+        self.passes_heard(block, findings)
+    }
+
+    // Whether the quiet answers of a block are all of points at rest.
+    #[inline(always)]
+    fn all_rest(&self, block: &AnswerBlock) -> bool
+        requires numbers { HasNumberedPoints block.now }
+        requires quiet { IsQuietBlock block.now }
+        ensures { result ≡ true → TellChanging self.now block.now (0 ∷ 0 ∷ 0 ∷ 0 ∷ []) }
+    {
+        let [first, second, third, fourth] = block.firsts;
+        let rests = self.points.resting_from(first as usize)
+            & self.points.resting_from(second as usize)
+            & self.points.resting_from(third as usize)
+            & self.points.resting_from(fourth as usize);
+        rests == 255
+    }
+
+    // Puts the findings of a whole block with alarms or silent points, where no answer changes anything of what is kept,
+    // in one step. Tells whether it is such a block, and leaves any other one as it is. It stands apart from the way of
+    // blocks without them, so that it need not share registers with it.
+    #[inline(never)]
+    fn passes_heard(&self, block: &AnswerBlock, findings: &mut Lane<FindingBlock>) -> bool
+        requires numbers { HasNumberedPoints block.now }
+        requires can { CanTakeRunOf block_answer_at self.now (all_of_block block.now) findings.old }
+        ensures passed { result ≡ true
+            → TakesRunOf block_answer_at self.now (all_of_block block.now) findings.old self.now
+            findings.new }
+        ensures other { result ≡ false → findings.new ≡ findings.old }
+    {
+        let changing = self.changing_in(block);
+        if changing[0] == 0 && changing[1] == 0 && changing[2] == 0 && changing[3] == 0 {
+            findings.put_run(Run {
+                first: plain_block(block),
+                taken: 0,
+                count: 32,
+            });
+            return true;
+        }
+        self.passes_going_on(block, changing, findings)
+    }
+
+    // Puts the findings of a whole block where those answers that may change what is kept of their points, by these
+    // bits, are all alarms that go on, in each eight of one zone. Tells whether it is such a block, and leaves any other
+    // one as it is.
+    fn passes_going_on(
+        &self,
+        block: &AnswerBlock,
+        changing: [u8; 4],
+        findings: &mut Lane<FindingBlock>,
+    ) -> bool
+        requires numbers { HasNumberedPoints block.now }
+        requires tells { TellChanging self.now block.now changing }
+        requires can { CanTakeRunOf block_answer_at self.now (all_of_block block.now) findings.old }
+        ensures passed { result ≡ true
+            → TakesRunOf block_answer_at self.now (all_of_block block.now) findings.old self.now
+            findings.new }
+        ensures other { result ≡ false → findings.new ≡ findings.old }
+    {
+        let Some(found) = self.block_going_on(block, changing) else {
+            return false;
+        };
+        findings.put_run(Run {
+            first: found,
+            taken: 0,
+            count: 32,
+        });
+        true
+    }
+
+    // Which of the answers of each eight of a block may change what is kept of their points, a bit for each.
+    #[inline(always)]
+    fn changing_in(&self, block: &AnswerBlock) -> [u8; 4]
+        requires { HasNumberedPoints block.now }
+        ensures { TellChanging self.now block.now result }
+    {
+        [
+            self.changing_bits(&whole_eight(block, 0)),
+            self.changing_bits(&whole_eight(block, 1)),
+            self.changing_bits(&whole_eight(block, 2)),
+            self.changing_bits(&whole_eight(block, 3)),
+        ]
+    }
+
+    // The findings of a block where those answers that may change what is kept of their points, by these bits, are all
+    // alarms that go on, in each eight of one zone.
+    fn block_going_on(&self, block: &AnswerBlock, changing: [u8; 4]) -> Option<FindingBlock>
+        requires numbers { HasNumberedPoints block.now }
+        requires tells { TellChanging self.now block.now changing }
+        requires can { CanTake self.now (items_of block_answer_at (all_of_block block.now)) }
+        ensures { IfSome result (λ found. IsSteadyBlock self.now block.now found) }
+    {
+        let first = self.eight_going_on(&block.eight(0), changing[0])?;
+        let second = self.eight_going_on(&block.eight(1), changing[1])?;
+        let third = self.eight_going_on(&block.eight(2), changing[2])?;
+        let fourth = self.eight_going_on(&block.eight(3), changing[3])?;
+        Some(FindingBlock::of(&[first, second, third, fourth]))
+    }
+
+    // The findings of an eight where those answers that may change what is kept of their points, by these bits, are all
+    // alarms of one zone that go on.
+    fn eight_going_on(&self, answers: &AnswerGroup, changing: u8) -> Option<FindingGroup>
+        requires point { answers.now.point ≤ 65527 }
+        requires tells { TellsChanging self.now (all_of_eight answers.now) changing }
+        requires can { CanTake self.now (items_of answer_at (all_of_eight answers.now)) }
+        ensures { IfSome result (λ found. IsSteadyEight self.now answers.now found) }
+    {
+        if changing == 0 {
+            return Some(plain_group(answers));
+        }
+        let run = Run {
+            first: *answers,
+            taken: 0,
+            count: 8,
+        };
+        if !self.all_go_on(&run, changing) {
+            return None;
+        }
+        let part = self.part_going_on(&run, changing);
+        if part.behind != 0 {
+            return None;
+        }
+        Some(telling_group(answers, part.zones))
+    }
+
+    // Takes the answers of a run of a block, one eight behind the other, and puts one finding for each.
+    pub(crate) fn take_eights(&mut self, run: &Run<AnswerBlock>, findings: &mut Lane<FindingBlock>)
+        requires { CanTakeRunOf block_answer_at self.old run.now findings.old }
+        ensures { TakesRunOf block_answer_at self.old run.now findings.old self.new findings.new }
+    {
+        let mut left = *run;
+        while left.count > 0 {
+            let eight = first_eight(&left);
+            self.take_eight(&eight, findings);
+            left.taken += eight.count;
+            left.count -= eight.count;
+        }
+    }
+
+    // Takes the answers of a run within a group of eight, and puts one finding for each.
+    fn take_eight(&mut self, run: &Run<AnswerGroup>, findings: &mut Lane<FindingBlock>)
+        requires { CanTakeAnswerRun self.old run.now findings.old }
+        ensures { TakesAnswerRun self.old run.now findings.old self.new findings.new }
+    {
+        if !self.passes(run, findings) {
+            self.take_run(run, findings);
+        }
+    }
+}
+
+// Those first answers of a run of a block that stand in one eight.
+fn first_eight(run: &Run<AnswerBlock>) -> Run<AnswerGroup>
+    ensures items { items_of answer_at result
+        ≡ items_of block_answer_at (front_of result.count run.now) }
+    ensures few { result.count ≤ run.now.count }
+    ensures some { 0 < run.now.count → 0 < result.count }
+    ensures eight { result.taken + result.count ≤ 8 }
+{
+    let taken = run.taken % 8;
+    Run {
+        first: run.first.eight(run.taken / 8),
+        taken,
+        count: run.count.min(8 - taken),
+    }
+}
+
+ghost use Rattle.coincidence.specs.Steady.{HasNumberedPoints, IsQuietBlock, all_of_eight};
+
+// All answers of one of the eights of a block.
+fn whole_eight(block: &AnswerBlock, number: u8) -> Run<AnswerGroup>
+    ensures { result ≡ all_of_eight (eight_of block.now number) }
+{
+    Run {
+        first: block.eight(number),
+        taken: 0,
+        count: 8,
+    }
+}
+
+// Whether the points of each eight of a block have different numbers.
+fn has_numbers(block: &AnswerBlock) -> bool
+    ensures { result ≡ true → HasNumberedPoints block.now }
+{
+    let [first, second, third, fourth] = block.firsts;
+    let most = u16::MAX - 8;
+    first <= most && second <= most && third <= most && fourth <= most
+}
+
+// Whether all answers of a block are quiet.
+fn is_quiet(block: &AnswerBlock) -> bool
+    ensures { result ≡ true → IsQuietBlock block.now }
+{
+    block.alarms == [0, 0, 0, 0] && block.silents == [0, 0, 0, 0]
+}
