@@ -1,4 +1,5 @@
-ghost use Rattle.std.specs.Prelude.{◌≡◌, ◌+◌, ◌++◌, ◌≤◌, [], ◌∷◌, All, IfOk, IfSome, length, take, drop};
+ghost use Rattle.std.specs.Prelude.{◌≡◌, ◌+◌, ◌++◌, ◌<◌, ◌≤◌, [], ◌∷◌, All, IfOk, IfSome, None, length};
+ghost use Rattle.std.specs.Prelude.{take, drop};
 ghost use Rattle.tick_units.specs.Lane.{HasRoom, after_turn, empty_lane, turn_count, with_put};
 ghost use Rattle.answer_lanes.specs.Runs.{HoldsItems, HasShortCount, all_items, items_of};
 
@@ -95,10 +96,12 @@ impl<S: Several> Lane<S> {
         move_runs(&mut self.runs, into, count as u8);
     }
 
-    /// The runs that a turn moves, the oldest first, where it parts none of them.
+    /// The runs that a turn moves, the oldest first, where it parts none of them. Where it moves all items, it parts
+    /// none.
     pub fn turn_runs(&self) -> Option<&[Run<S>]>
         requires few { self.now.quota ≤ 32 }
-        ensures { IfSome result (λ runs. AreOfTurn S.item_at self.now runs.now) }
+        ensures shown { IfSome result (λ runs. AreOfTurn S.item_at self.now runs.now) }
+        ensures parted { result ≡ None → self.now.quota < length self.now.items }
     {
         let runs = self.runs.as_slice();
         if self.len() <= self.quota {
@@ -148,7 +151,7 @@ impl<S: Several> Lane<S> {
     }
 }
 
-ghost use Rattle.std.specs.Prelude.{◌<◌, Some, slice_get};
+ghost use Rattle.std.specs.Prelude.{Some, slice_get};
 ghost use Rattle.answer_lanes.specs.Moves.{AreWhole, MayMove, MovesItems, PassesItems};
 ghost use Rattle.answer_lanes.specs.Queues.{HasSameRoom, queued};
 ghost use Rattle.answer_lanes.specs.Runs.{rest_of};

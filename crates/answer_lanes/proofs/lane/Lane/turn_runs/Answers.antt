@@ -5,8 +5,8 @@ use Rattle.answer_lanes.specs.Runs.{HoldsItems, all_items}
 use Rattle.answer_lanes.proofs.Passing.{whole_front}
 use Rattle.answer_lanes.proofs.lane.Lane.turn_runs.Goals as goal
 
-pub returns : goal.returns
-returns g c =
+pub returns-clause-shown : goal.returns-clause-shown
+returns-clause-shown g c =
     let item_at = g.S.Several.item_at in
     let l = c.self.inside in
     let lane = c.args.self.now in
