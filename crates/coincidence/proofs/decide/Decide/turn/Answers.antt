@@ -18,22 +18,22 @@ take_runs-requires-clause-room c =
     let self = c.args.self.now in
     let lane = c.args.findings.now in
     let items = all_items block_answer_at c.in-Some.runs.now in
-    room_next self self _ [] items items [] refl (nothing_more c.args.answers.now items c.in-Some.ensures.moved) lane lane 32 c.requires.may
+    room_next self self _ [] items items [] refl (nothing_more c.args.answers.now items c.in-Some.ensures.shown.moved) lane lane 32 c.requires.may
     (puts_none self lane) c.requires.room (few_taken c.args.answers.now _ refl c.requires.quota)
 
 pub take_runs-requires-clause-may : goal.take_runs-requires-clause-may
 take_runs-requires-clause-may c =
     let self = c.args.self.now in
     let items = all_items block_answer_at c.in-Some.runs.now in
-    can_next self self _ [] items items [] refl (nothing_more c.args.answers.now items c.in-Some.ensures.moved) c.requires.may (takes_none self)
+    can_next self self _ [] items items [] refl (nothing_more c.args.answers.now items c.in-Some.ensures.shown.moved) c.requires.may (takes_none self)
 
 pub returns-in-Some-clause-taken : goal.returns-in-Some-clause-taken
 returns-in-Some-clause-taken c =
-    subst (λ xs. TakesAnswers c.args.self.now xs c.take_runs.new.self) c.in-Some.ensures.moved c.take_runs.ensures.taken
+    subst (λ xs. TakesAnswers c.args.self.now xs c.take_runs.new.self) c.in-Some.ensures.shown.moved c.take_runs.ensures.taken
 
 pub returns-in-Some-clause-findings : goal.returns-in-Some-clause-findings
 returns-in-Some-clause-findings c =
-    subst (λ xs. PutsFindings c.args.self.now xs c.args.findings.now c.take_runs.new.findings) c.in-Some.ensures.moved c.take_runs.ensures.findings
+    subst (λ xs. PutsFindings c.args.self.now xs c.args.findings.now c.take_runs.new.findings) c.in-Some.ensures.shown.moved c.take_runs.ensures.findings
 
 -- else it takes those that it moved out of the lane
 pub returns-clause-taken : goal.returns-clause-taken

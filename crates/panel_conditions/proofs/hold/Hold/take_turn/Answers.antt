@@ -6,7 +6,7 @@ use Rattle.panel_conditions.proofs.hold.Hold.take_turn.Goals as goal
 
 pub returns-in-Some-clause-watches : goal.returns-in-Some-clause-watches
 returns-in-Some-clause-watches c site kept panel done taken h =
-    let found : all_items block_finding_at c.in-Some.runs.now ≡ moved_from c.args.findings.now = c.in-Some.ensures.moved in
+    let found : all_items block_finding_at c.in-Some.runs.now ≡ moved_from c.args.findings.now = c.in-Some.ensures.shown.moved in
     record {
       zones = subst (λ l. WatchesZonesMore c.args.self.now.zones l c.take_runs.new.zones) found c.take_runs.ensures.zones site panel done taken h.zones;
       points =
