@@ -49,6 +49,7 @@ mod recent;
 mod rules;
 mod runs;
 mod watches;
+mod zone_eights;
 mod zone_part;
 mod zone_watch;
 
