@@ -20,6 +20,7 @@ pub mod Resting
 pub mod RunItems
 pub mod Passed
 pub mod ZoneParts
+pub mod ZoneEights
 pub mod Steady
 -- operations: what is kept after one, by its kind, and that those of other panels change nothing
 pub mod AppliedOperation

@@ -1,5 +1,5 @@
 -- Sets of places, kept as the bits of bytes, and the points that they have.
-use Rattle.std.proofs.Common.{◌≡◌, ⊎_elim, inl, inr, nat_lt, ℕ, zero, suc, ◌-◌, ◌*◌, ◌%◌, ◌^◌, ◌<◌, ◌≤◌, ◌==◌, Bool, true, false, sym, ◌∙◌, ap, arith}
+use Rattle.std.proofs.Common.{◌≡◌, ⊎_elim, inl, inr, nat_lt, ℕ, zero, suc, ◌-◌, ◌*◌, ◌%◌, ◌^◌, ◌<◌, ◌≤◌, ◌==◌, Bool, true, false, refl, sym, ◌∙◌, ap, arith}
 use Rattle.std.proofs.Common.{List, [], ◌∷◌, length, map, get_or, set, length-set, slice_get, Some}
 use Rattle.std.proofs.lemmas.Nat.{one_shl}
 use Rattle.std.proofs.lemmas.Nat.Bits.{bit_at_ones, bit_at_ones_above}
@@ -48,6 +48,11 @@ module _ (test : PointWatch → Bool) (watches : List PointWatch) (place : ℕ) 
         ⊎_elim (λ here. ap (has_place next) here.0 ∙ sets.this ∙ on_is ∙ ap test here.1) (λ other. sets.others k other.0 ∙ h.is k watch other.1)
         (get_set watches place k is watch there);
   }
+
+  -- where the test tells the same of both, the set stays right as it is
+  pub keep_those : (places : PlaceSet) → HasPointsWhere test watches places → test is ≡ test was → HasPointsWhere test (set watches place is) places
+  keep_those places h same =
+      set_those places places (test was) h (record { room = refl; this = tells_old places h (test was) refl; others = λ k other. refl }) (sym same)
 
 -- at the start each point is at rest
 pub begun : (kept : Retained) (points : List PointPlan) (place : ℕ) (watch : PointWatch) → slice_get (map (point_from kept) points) place ≡ Some watch

@@ -1,5 +1,6 @@
 -- Answers that leave all that is kept as it is are told of at once, eight by eight.
-use Rattle.std.proofs.Common.{◌+◌, Bool, bit_and, ◌≤◌, true, false, not, ◌&&◌, if◌then◌else◌, ◌≡◌, ℕ, zero, suc, ◌<◌, List, [], ◌∷◌, ◌++◌, refl, slice_index, slice_index_or, sym, ◌∙◌, ap, subst, arith}
+use Rattle.std.proofs.Common.{◌+◌, Bool, bit_and, ◌≤◌, true, false, not, ◌&&◌, if◌then◌else◌, ◌≡◌, ℕ, zero, suc, ◌<◌, List, [], ◌∷◌, ◌++◌}
+use Rattle.std.proofs.Common.{refl, slice_index, slice_index_or, sym, ◌∙◌, ap, subst, arith}
 use Rattle.std.proofs.lemmas.Nat.{and_le_l, and_le_r}
 use Rattle.tick_units.specs.Lane.{LaneState, with_put}
 use Rattle.site_types.specs.declared.answer.Answer.{Answer}
@@ -141,12 +142,12 @@ plain_at answers missing k silent =
     same_finding (answer_at answers k) _ 0 _ 0 _ 0 _ 0 _ _ none none none none silent
 
 pub plain_found : (answers : AnswerBlock) (missing : List ℕ) → AreSilentIn answers missing → IsPlainBlock answers (record {
-      stamp = answers.stamp;
-      firsts = answers.firsts;
-      missing = missing;
-      telling = 0 ∷ 0 ∷ 0 ∷ 0 ∷ [];
-      told = none_told ∷ none_told ∷ none_told ∷ none_told ∷ [];
-    })
+  stamp = answers.stamp;
+  firsts = answers.firsts;
+  missing = missing;
+  telling = 0 ∷ 0 ∷ 0 ∷ 0 ∷ [];
+  told = none_told ∷ none_told ∷ none_told ∷ none_told ∷ [];
+})
 plain_found answers missing silents zero less k = plain_at (eight_of answers 0) (slice_index missing 0) k (silents 0 k less)
 plain_found answers missing silents (suc zero) less k = plain_at (eight_of answers 1) (slice_index missing 1) k (silents 1 k less)
 plain_found answers missing silents (suc (suc zero)) less k = plain_at (eight_of answers 2) (slice_index missing 2) k (silents 2 k less)

@@ -1,6 +1,6 @@
--- The points that a set of places has.
-use Rattle.std.specs.Prelude.{◌≡◌, ◌+◌, ◌*◌, ◌<◌, ◌≤◌, ◌||◌, ℕ, Bool, List, None, Some, false, length, max}
-use Rattle.std.specs.Prelude.{slice_get, true}
+-- The points that a set of places has, and the zone of the eight points from a place on.
+use Rattle.std.specs.Prelude.{◌≡◌, ◌↔◌, ◌+◌, ◌*◌, ◌<◌, ◌≤◌, ◌||◌, ℕ, Bool, List, None, Option, Some, false, length}
+use Rattle.std.specs.Prelude.{max, slice_get, slice_index_or, true}
 use Rattle.tick_units.specs.declared.last_done.LastDone.{LastDone}
 use Rattle.tick_units.specs.declared.tick.Tick.{Tick}
 use Rattle.tick_units.specs.LastTicks.{last_at}
@@ -22,6 +22,24 @@ pub record HasPointsWhere (test : PointWatch → Bool) (watches : List PointWatc
 abbrev pub TellsEight : (PointWatch → Bool) → List PointWatch → ℕ → ℕ → Type 0
 TellsEight test watches first byte =
     (k : ℕ) (watch : PointWatch) → k < 8 → slice_get watches (first + k) ≡ Some watch → has_bit byte k ≡ test watch
+
+-- the point at a place is of a zone
+pub record IsPointInZone (watches : List PointWatch) (zone place : ℕ) : Type 0 where
+  pub watch : PointWatch
+  pub is : slice_get watches place ≡ Some watch
+  pub own : watch.zone ≡ zone
+
+-- each of the eight points from a place on is of a zone
+abbrev pub AreEightInZone : List PointWatch → ℕ → ℕ → Type 0
+AreEightInZone watches first zone = (k : ℕ) → k < 8 → IsPointInZone watches zone (first + k)
+
+-- a zone is told of the eight points from a place on where each of them is of it, and no zone where they are not of one
+abbrev pub TellsZoneOfEight : List PointWatch → ℕ → Option ℕ → Type 0
+TellsZoneOfEight watches first told = (zone : ℕ) → (told ≡ Some zone) ↔ AreEightInZone watches first zone
+
+-- what stands at each place of a list is told so of the eight points from that place on
+abbrev pub TellZonesOfEights : List PointWatch → List (Option ℕ) → Type 0
+TellZonesOfEights watches of_eights = (first : ℕ) → TellsZoneOfEight watches first (slice_index_or of_eights first None)
 
 -- from a tick on each alarm of a detector in a plain zone counts, and leaves what is kept of the detector as it is
 pub record GoesOnFrom (since : ℕ) (reset : LastDone) (point : PointWatch) (zone : ZoneWatch) : Type 0 where

@@ -37,7 +37,8 @@ TellChanging decide block bytes =
 -- the bits of a byte for each eight of a block are set of those of its answers that are silent
 abbrev pub AreSilentIn : AnswerBlock → List ℕ → Type 0
 AreSilentIn block bytes =
-    (number k : ℕ) → number < 4 → has_bit (slice_index bytes number) k ≡ is_silent ((answer_at (eight_of block number) k).heard)
+    (number k : ℕ) → number < 4
+    → has_bit (slice_index bytes number) k ≡ is_silent ((answer_at (eight_of block number) k).heard)
 
 -- what is found of all answers of a block is plain
 abbrev pub IsPlainBlock : AnswerBlock → FindingBlock → Type 0

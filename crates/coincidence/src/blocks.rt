@@ -5,6 +5,7 @@ ghost use Rattle.answer_lanes.specs.Blocks.{block_answer_at, eight_of};
 ghost use Rattle.answer_lanes.specs.Points.{answer_at};
 ghost use Rattle.answer_lanes.specs.Runs.{front_of, items_of};
 
+use crate::bits::one_bit;
 use crate::decide::Decide;
 use crate::rules::{plain_block, plain_group, quiet_block, telling_group};
 use answer_lanes::{AnswerBlock, AnswerGroup, FindingBlock, FindingGroup, Lane, Run};
@@ -34,9 +35,9 @@ impl Decide {
         self.passes_part(run, findings)
     }
 
-    // Puts the findings of a run within one eight of a block whose answers change nothing of what is kept. Tells whether
-    // it is such a run, and leaves any other one as it is. It stands apart from the way of whole blocks, so that it need
-    // not share registers with it.
+    // Puts the findings of a run within one eight of a block whose answers change nothing of what is kept. Tells
+    // whether it is such a run, and leaves any other one as it is. It stands apart from the way of whole blocks, so
+    // that it need not share registers with it.
     #[inline(never)]
     fn passes_part(&self, run: &Run<AnswerBlock>, findings: &mut Lane<FindingBlock>) -> bool
         requires { CanTakeRunOf block_answer_at self.now run.now findings.old }
@@ -89,9 +90,9 @@ impl Decide {
         rests == 255
     }
 
-    // Puts the findings of a whole block with alarms or silent points, where no answer changes anything of what is kept,
-    // in one step. Tells whether it is such a block, and leaves any other one as it is. It stands apart from the way of
-    // blocks without them, so that it need not share registers with it.
+    // Puts the findings of a whole block, plain or with alarms that go on, whose answers change nothing of what is
+    // kept, in one step. Tells whether it is such a block, and leaves any other one as it is. It stands apart from the
+    // way of blocks that are all quiet and at rest, so that it need not share registers with it.
     #[inline(never)]
     fn passes_heard(&self, block: &AnswerBlock, findings: &mut Lane<FindingBlock>) -> bool
         requires numbers { HasNumberedPoints block.now }
@@ -110,26 +111,6 @@ impl Decide {
             });
             return true;
         }
-        self.passes_going_on(block, changing, findings)
-    }
-
-    // Puts the findings of a whole block where those answers that may change what is kept of their points, by these
-    // bits, are all alarms that go on, in each eight of one zone. Tells whether it is such a block, and leaves any other
-    // one as it is.
-    fn passes_going_on(
-        &self,
-        block: &AnswerBlock,
-        changing: [u8; 4],
-        findings: &mut Lane<FindingBlock>,
-    ) -> bool
-        requires numbers { HasNumberedPoints block.now }
-        requires tells { TellChanging self.now block.now changing }
-        requires can { CanTakeRunOf block_answer_at self.now (all_of_block block.now) findings.old }
-        ensures passed { result ≡ true
-            → TakesRunOf block_answer_at self.now (all_of_block block.now) findings.old self.now
-            findings.new }
-        ensures other { result ≡ false → findings.new ≡ findings.old }
-    {
         let Some(found) = self.block_going_on(block, changing) else {
             return false;
         };
@@ -156,7 +137,8 @@ impl Decide {
     }
 
     // The findings of a block where those answers that may change what is kept of their points, by these bits, are all
-    // alarms that go on, in each eight of one zone.
+    // alarms that go on, and the points of each eight that has one are of one zone.
+    #[inline(always)]
     fn block_going_on(&self, block: &AnswerBlock, changing: [u8; 4]) -> Option<FindingBlock>
         requires numbers { HasNumberedPoints block.now }
         requires tells { TellChanging self.now block.now changing }
@@ -171,7 +153,8 @@ impl Decide {
     }
 
     // The findings of an eight where those answers that may change what is kept of their points, by these bits, are all
-    // alarms of one zone that go on.
+    // alarms that go on. Where there is one, all eight points have to be of one zone.
+    #[inline(always)]
     fn eight_going_on(&self, answers: &AnswerGroup, changing: u8) -> Option<FindingGroup>
         requires point { answers.now.point ≤ 65527 }
         requires tells { TellsChanging self.now (all_of_eight answers.now) changing }
@@ -189,11 +172,9 @@ impl Decide {
         if !self.all_go_on(&run, changing) {
             return None;
         }
-        let part = self.part_going_on(&run, changing);
-        if part.behind != 0 {
-            return None;
-        }
-        Some(telling_group(answers, part.zones))
+        let place = self.points.zone_of_eight(answers.point as usize)?;
+        let zone = &self.zones[place as usize];
+        Some(telling_group(answers, one_bit(zone.number, true)))
     }
 
     // Takes the answers of a run of a block, one eight behind the other, and puts one finding for each.

@@ -4,6 +4,7 @@ ghost use Rattle.site_types.specs.Changes.{IsPanelNumber};
 
 use crate::point_watch::PointWatch;
 use crate::watches::watch_points;
+use crate::zone_eights::zones_of_eights;
 use answer_lanes::PlaceSet;
 use site_types::{Heard, Point, Retained};
 use std::alloc::Global;
@@ -19,20 +20,23 @@ pub struct PointWatches {
     resting: PlaceSet,
     /// Those that a silent answer leaves as they are.
     missing: PlaceSet,
+    /// By place, the zone of the eight points from it on, if all are of one.
+    of_eights: Vec<Option<u16>>,
 }
 
 impl Model for PointWatches {
     ghost use Rattle.std.specs.Prelude.{List};
     ghost use Rattle.coincidence.specs.declared.point_watch.PointWatch.{PointWatch as Watch};
     ghost use Rattle.coincidence.specs.Parts.{is_at_rest, stays_missing};
-    ghost use Rattle.coincidence.specs.Places.{HasPointsWhere};
+    ghost use Rattle.coincidence.specs.Places.{HasPointsWhere, TellZonesOfEights};
 
     ghost Value = { List Watch };
 
     ghost view = { λ p. p.watches.items };
 
     ghost invariant = { λ p. HasPointsWhere is_at_rest p.watches.items p.resting
-        × HasPointsWhere stays_missing p.watches.items p.missing };
+        × HasPointsWhere stays_missing p.watches.items p.missing
+        × TellZonesOfEights p.watches.items p.of_eights.items };
 }
 
 impl PointWatches {
@@ -40,7 +44,7 @@ impl PointWatches {
     ghost use Rattle.site_types.specs.declared.point.Point.{Point as PointPlan};
     ghost use Rattle.coincidence.specs.Changes.{IsSwitchedBefore, NotesPoint, SwitchesPoint};
     ghost use Rattle.coincidence.specs.Parts.{point_from, is_at_rest, leaves_watch, stays_missing};
-    ghost use Rattle.coincidence.specs.Places.{TellsEight};
+    ghost use Rattle.coincidence.specs.Places.{TellsEight, TellsZoneOfEight};
 
     /// What is kept of some points at the start.
     pub fn new(alloc: Global, points: &[Point], kept: &Retained) -> Result<PointWatches, NoMemory>
@@ -51,10 +55,12 @@ impl PointWatches {
         let watches = watch_points(alloc, points, kept)?;
         let resting = PlaceSet::first(alloc, watches.len(), true)?;
         let missing = PlaceSet::first(alloc, watches.len(), false)?;
+        let of_eights = zones_of_eights(alloc, watches.as_slice())?;
         Ok(PointWatches {
             watches,
             resting,
             missing,
+            of_eights,
         })
     }
 
@@ -125,6 +131,16 @@ impl PointWatches {
         ensures { TellsEight stays_missing self.now first result }
     {
         self.missing.eight_from(first)
+    }
+
+    /// The zone of the eight points from a place on, if all are of one.
+    pub fn zone_of_eight(&self, first: usize) -> Option<u16>
+        ensures { TellsZoneOfEight self.now first result }
+    {
+        match self.of_eights.get(first) {
+            Some(zone) => *zone,
+            None => None,
+        }
     }
 }
 

@@ -113,7 +113,8 @@ pub fn plain_block(answers: &AnswerBlock) -> FindingBlock
 
 ghost use Rattle.coincidence.specs.Steady.{AreSilentIn};
 
-// What the answers of a block mean that tell of no zone, where these bits of each eight are set of those that are silent.
+// What the answers of a block mean that tell of no zone, where these bits of each eight are set of those that are
+// silent.
 fn plain_with(answers: &AnswerBlock, missing: [u8; 4]) -> FindingBlock
     requires { AreSilentIn answers.now missing }
     ensures { IsPlainBlock answers.now result }

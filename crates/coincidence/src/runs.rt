@@ -42,7 +42,8 @@ impl Decide {
         findings: &mut Lane<FindingBlock>,
     ) -> &'a [Run<AnswerBlock>]
         requires { CanTakeRuns block_answer_at self.now runs.now findings.old }
-        ensures { TakesFirstRuns block_answer_at self.now runs.now result.now findings.old self.now findings.new }
+        ensures { TakesFirstRuns block_answer_at self.now runs.now result.now findings.old self.now
+            findings.new }
     {
         let mut left = runs;
         while let [run, rest @ ..] = left {

@@ -1,4 +1,4 @@
-use Rattle.std.proofs.Common.{◌≡◌, [], ◌∷◌, ℕ, ap, slice_index}
+use Rattle.std.proofs.Common.{◌≡◌, [], ◌∷◌, ap, slice_index}
 use Rattle.site_types.specs.Bits.{has_bit}
 use Rattle.coincidence_rules.specs.Counted.{is_silent}
 use Rattle.answer_lanes.specs.Blocks.{eight_of}

@@ -23,3 +23,10 @@ returns-then-changing-eq0-4-clause-passed c is =
       put = subst (PutsFindings self (items_of block_answer_at (all_of_block block)) c.args.findings.now) (sym c.put_run.ensures)
           (steady.put c.args.findings.now);
     }
+
+pub returns-clause-passed : goal.returns-clause-passed
+returns-clause-passed c is = record {
+  taken = c.in-Some.ensures.taken;
+  put = subst (PutsFindings c.args.self.now (items_of block_answer_at (all_of_block c.args.block.now)) c.args.findings.now) (sym c.put_run-2.ensures)
+      (c.in-Some.ensures.put c.args.findings.now);
+}
