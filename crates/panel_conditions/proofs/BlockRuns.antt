@@ -52,7 +52,7 @@ zones_then first second x y z a b = record {
 }
 
 -- what a whole block holds is what its eights do
-block_items : (block : FindingBlock)
+pub block_items : (block : FindingBlock)
     → ((items_of finding_at (eight_run block 0) ++ items_of finding_at (eight_run block 1)) ++ items_of finding_at (eight_run block 2))
     ++ items_of finding_at (eight_run block 3) ≡ items_of block_finding_at (block_run block)
 block_items block = refl
