@@ -230,17 +230,17 @@ run_again site kept panel done taken run points told h = all_again site kept pan
 
 -- where the item at a place of what stands in a run is this
 module _ {S : Type 0} (item_at : S → ℕ → Finding) where
-  -- one more item of a run
-  pub items_then : (first : S) (from place : ℕ) → from ≤ place →
-      map (item_at first) (range_with_len from (place + 1 - from))
-      ≡ map (item_at first) (range_with_len from (place - from)) ++ item_at first place ∷ []
-  items_then first from place le =
+  -- more items of a run
+  pub items_then : (first : S) (from place more : ℕ) → from ≤ place →
+      map (item_at first) (range_with_len from (place + more - from))
+      ≡ map (item_at first) (range_with_len from (place - from)) ++ map (item_at first) (range_with_len place more)
+  items_then first from place more le =
       let item = item_at first in
-      let count : place + 1 - from ≡ (place - from) + 1 = omega (arith, le) in
+      let count : place + more - from ≡ (place - from) + more = omega (arith, le) in
       let last : from + (place - from) ≡ place = omega (arith, le) in
-      ap (λ n. map item (range_with_len from n)) count ∙ ap (map item) (range_parts from (place - from) 1)
-      ∙ map-append item (range_with_len from (place - from)) (range_with_len (from + (place - from)) 1)
-      ∙ ap (λ n. map item (range_with_len from (place - from)) ++ item n ∷ []) last
+      ap (λ n. map item (range_with_len from n)) count ∙ ap (map item) (range_parts from (place - from) more)
+      ∙ map-append item (range_with_len from (place - from)) (range_with_len (from + (place - from)) more)
+      ∙ ap (λ n. map item (range_with_len from (place - from)) ++ map item (range_with_len n more)) last
 
   -- one more item of a run, behind those taken before
   pub item_more : (P : List Finding → Type 0) (taken : List Finding) (run : Run S) (place : ℕ) (f : Finding) → run.taken ≤ place
@@ -250,7 +250,7 @@ module _ {S : Type 0} (item_at : S → ℕ → Finding) where
   item_more P taken run place f le is h =
       let before = map (item_at run.first) (range_with_len run.taken (place - run.taken)) in
       subst P (append_assoc taken before (f ∷ []) ∙ ap (λ g. taken ++ (before ++ g ∷ [])) is
-      ∙ ap (λ l. taken ++ l) (sym (items_then run.first run.taken place le))) h
+      ∙ ap (λ l. taken ++ l) (sym (items_then run.first run.taken place 1 le))) h
 
   -- one more run
   pub run_more : (P : List Finding → Type 0) (taken : List Finding) (runs : List (Run S)) (k : ℕ) (d : Run S) → k < length runs
