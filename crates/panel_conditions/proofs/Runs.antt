@@ -94,6 +94,7 @@ module _ (group : FindingGroup) (test : Finding → Bool) (base : Bool) (is :
 
 -- ---- all that is kept of zones goes by the latest stamps
 
+-- zones that took findings stand as after any others that tell the same
 pub zones_as : (site : Site) (panel : ℕ) (done : List Done) (taken one other : List Finding) (watches : List ZoneWatch) → TellSame one other
     → WatchesZones site panel done (taken ++ one) watches → WatchesZones site panel done (taken ++ other) watches
 zones_as site panel done taken one other watches same h =
@@ -153,7 +154,7 @@ module _ (group : FindingGroup) (from count : ℕ) where
         (λ p. bits_if (has_bit group.telling p) group.counted group.manual k) from count none);
   }
 
--- the same is told of zones as by findings that tell the same of them as others
+-- findings that tell the same as others tell the same as what these do
 pub same_then : (one other third : List Finding) → TellSame one other → TellSame other third → TellSame one third
 same_then one other third a b = record {
   confirmed = λ k. a.confirmed k ∙ b.confirmed k;
