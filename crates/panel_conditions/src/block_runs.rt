@@ -41,7 +41,9 @@ fn take_first_eight(points: &mut Points, zones: &mut Zones, run: &Run<FindingBlo
     take_narrow(points, zones, &eight);
 }
 
-// Takes the findings of a run, one eight behind the other.
+// Takes the findings of a run, one eight behind the other. It stands apart from the usual ways, so that these need not
+// share registers with it.
+#[inline(never)]
 fn take_eights(points: &mut Points, zones: &mut Zones, run: &Run<FindingBlock>)
     requires { HasShortCount run.now }
     ensures { BothTake (items_of block_finding_at run.now) points.old points.new zones.old

@@ -87,10 +87,18 @@ impl Zones {
         if first | second | third | fourth == 0 {
             return;
         }
-        if let Some(zones) = plain_zones(block) {
-            self.take_plainly(block.stamp, zones);
-            return;
+        match plain_zones(block) {
+            Some(zones) => self.take_plainly(block.stamp, zones),
+            None => self.take_eights(block),
         }
+    }
+
+    // Takes note of the findings of a whole block, one eight behind the other. It stands apart from the usual way, so
+    // that this need not share registers with it.
+    #[inline(never)]
+    fn take_eights(&mut self, block: &FindingBlock)
+        ensures { TakesZones (items_of block_finding_at (block_run block.now)) self.old self.new }
+    {
         self.take_eight(block, 0);
         self.take_eight(block, 1);
         self.take_eight(block, 2);
@@ -116,10 +124,17 @@ impl Zones {
         if is_plain(told) {
             self.take_plainly(stamp, told.confirmed);
         } else {
-            let finding = finding_of(stamp, told);
-            self.take_each(&finding);
-            self.mark(&finding);
+            self.take_all(&finding_of(stamp, told));
         }
+    }
+
+    // Takes note of all that a finding tells of zones. It stands apart as well.
+    #[inline(never)]
+    fn take_all(&mut self, finding: &Finding)
+        ensures { TakesTold finding.now self.old self.new }
+    {
+        self.take_each(finding);
+        self.mark(finding);
     }
 
     // Takes note of findings of a stamp that confirm zones plainly.

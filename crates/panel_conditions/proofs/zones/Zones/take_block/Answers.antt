@@ -4,7 +4,7 @@ use Rattle.answer_lanes.specs.Runs.{items_of}
 use Rattle.panel_conditions.specs.Changes.{TellSame}
 use Rattle.panel_conditions.specs.Parts.{finding_of, plain_told}
 use Rattle.panel_conditions.specs.Told.{block_run}
-use Rattle.panel_conditions.proofs.BlockRuns.{block_of_none, zones_by_eights}
+use Rattle.panel_conditions.proofs.BlockRuns.{block_of_none}
 use Rattle.panel_conditions.proofs.PlainBlocks.{block_same}
 use Rattle.panel_conditions.proofs.zones.Zones.take_block.Goals as goal
 
@@ -18,7 +18,3 @@ returns-in-Some c =
     c.take_plainly.ensures items
     (subst (λ zones. TellSame (finding_of block.stamp (plain_told zones) ∷ []) items) (sym c.in-Some.ensures.plain.1)
     (block_same block c.in-Some.ensures.plain.0 (omega arith) (omega arith) (omega arith) (omega arith)))
-
-pub returns : goal.returns
-returns c =
-    zones_by_eights c.args.block.now _ _ _ _ _ c.take_eight.ensures c.take_eight-2.ensures c.take_eight-3.ensures c.take_eight-4.ensures

@@ -2,7 +2,6 @@ use Rattle.std.proofs.Common.{sym, subst}
 use Rattle.panel_conditions.specs.Changes.{TakesTold}
 use Rattle.panel_conditions.specs.Parts.{finding_of}
 use Rattle.panel_conditions.proofs.Plain.{told_plainly}
-use Rattle.panel_conditions.proofs.ZoneRuns.{taken_as_told}
 use Rattle.panel_conditions.proofs.zones.Zones.take_told.Goals as goal
 
 pub returns-then-is_plain : goal.returns-then-is_plain
@@ -11,7 +10,4 @@ returns-then-is_plain c =
     (sym (told_plainly c.args.told.now (c.is_plain.ensures.0 c.if-is_plain.true))) c.take_plainly.ensures
 
 pub returns-else-is_plain : goal.returns-else-is_plain
-returns-else-is_plain c =
-    subst (λ f. TakesTold f c.args.self.now c.mark.new.self) c.finding_of-finding.ensures
-    (taken_as_told c.finding_of-finding.result c.args.self.now c.take_each.new.self c.mark.new.self c.take_each.ensures c.mark.ensures.marks
-    c.mark.ensures.rest)
+returns-else-is_plain c = subst (λ f. TakesTold f c.args.self.now c.take_all.new.self) c.finding_of.ensures c.take_all.ensures
