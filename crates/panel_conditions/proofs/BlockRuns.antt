@@ -1,8 +1,9 @@
 -- Points and zones take findings that come one behind the other.
-use Rattle.std.proofs.Common.{◌≡◌, [], ◌++◌, ◌∙◌, ℕ, List, refl, sym, subst, arith, bit_or, slice_index, append_assoc, append-nil}
+use Rattle.std.proofs.Common.{◌≡◌, ◌+◌, ◌*◌, ◌/◌, ◌%◌, ◌≤◌, [], ◌∷◌, ◌++◌, ◌∙◌, ℕ, zero, suc, List, refl, sym, ap, subst, arith, bit_or, slice_index}
+use Rattle.std.proofs.Common.{append_assoc, append-nil}
 use Rattle.std.proofs.lemmas.Nat.{le_or_l, le_or_r}
 use Rattle.answer_lanes.specs.declared.finding_block.FindingBlock.{FindingBlock}
-use Rattle.answer_lanes.specs.Blocks.{block_finding_at}
+use Rattle.answer_lanes.specs.Blocks.{block_finding_at, eight_found}
 use Rattle.answer_lanes.specs.Points.{finding_at}
 use Rattle.answer_lanes.specs.Runs.{items_of}
 use Rattle.coincidence_rules.specs.declared.finding.Finding.{Finding}
@@ -10,7 +11,7 @@ use Rattle.panel_conditions.specs.declared.points.Points.{Points}
 use Rattle.panel_conditions.specs.declared.zones.Zones.{Zones}
 use Rattle.panel_conditions.specs.Changes.{TakesPoints, TakesZones}
 use Rattle.panel_conditions.specs.Stands.{WatchesPoints, WatchesZones}
-use Rattle.panel_conditions.specs.Told.{AreTold, AreToldInBlock, block_run, eight_run}
+use Rattle.panel_conditions.specs.Told.{AreTold, AreToldInBlock, block_run, eight_run, part_of}
 use Rattle.panel_conditions.proofs.Runs.{run_again}
 use Rattle.panel_conditions.proofs.ZoneRuns.{run_of_nothing}
 
@@ -52,7 +53,7 @@ zones_then first second x y z a b = record {
 }
 
 -- what a whole block holds is what its eights do
-block_items : (block : FindingBlock)
+pub block_items : (block : FindingBlock)
     → ((items_of finding_at (eight_run block 0) ++ items_of finding_at (eight_run block 1)) ++ items_of finding_at (eight_run block 2))
     ++ items_of finding_at (eight_run block 3) ≡ items_of block_finding_at (block_run block)
 block_items block = refl
@@ -107,3 +108,25 @@ block_of_none block zones none =
   where
     of_none : (number : ℕ) → slice_index block.telling number ≡ 0 → TakesZones (items_of finding_at (eight_run block number)) zones zones
     of_none number none = run_of_nothing (eight_run block number) zones none
+
+-- findings of a block at places of one eight are those of the eight
+at_eight : (block : FindingBlock) (number taken count : ℕ) → taken + count ≤ 8
+    → items_of block_finding_at (part_of block (8 * number + taken) count)
+    ≡ items_of finding_at (record { first = eight_found block number; taken = taken; count = count })
+at_eight block number taken zero few = refl
+at_eight block number taken (suc count) few =
+    let this : (8 * number + taken) / 8 ≡ number = omega (arith, few) in
+    let there : (8 * number + taken) % 8 ≡ taken = omega (arith, few) in
+    let next : 8 * number + taken + 1 ≡ 8 * number + (taken + 1) = omega arith in
+    let more : (taken + 1) + count ≤ 8 = omega (arith, few) in
+    ap (λ f. f ∷ items_of block_finding_at (part_of block (8 * number + taken + 1) count))
+    (ap (λ n. finding_at (eight_found block n) ((8 * number + taken) % 8)) this ∙ ap (finding_at (eight_found block number)) there)
+    ∙ ap (λ found. finding_at (eight_found block number) taken ∷ found)
+    (ap (λ n. items_of block_finding_at (part_of block n count)) next ∙ at_eight block number (taken + 1) count more)
+
+-- so are those from a place on, as far as its eight goes
+pub part_in_eight : (block : FindingBlock) (place count : ℕ) → place % 8 + count ≤ 8 → items_of block_finding_at (part_of block place count)
+    ≡ items_of finding_at (record { first = eight_found block (place / 8); taken = place % 8; count = count })
+part_in_eight block place count few =
+    let at : place ≡ 8 * (place / 8) + place % 8 = omega arith in
+    ap (λ n. items_of block_finding_at (part_of block n count)) at ∙ at_eight block (place / 8) (place % 8) count few

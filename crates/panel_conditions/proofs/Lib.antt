@@ -22,6 +22,7 @@ pub mod Alike
 pub mod Runs
 pub mod ZoneRuns
 pub mod BlockRuns
+pub mod PlainBlocks
 -- the whole part: at first, and after a turn or an operation
 pub mod Firsts
 pub mod Turned

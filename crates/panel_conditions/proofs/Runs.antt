@@ -19,7 +19,8 @@ use Rattle.answer_lanes.specs.Runs.{all_items, items_of}
 use Rattle.answer_lanes.proofs.Moving.{items_more, range_parts}
 use Rattle.panel_conditions.specs.declared.points.Points.{Points}
 use Rattle.panel_conditions.specs.declared.zone_watch.ZoneWatch.{ZoneWatch}
-use Rattle.panel_conditions.specs.Parts.{finding_of}
+use Rattle.panel_conditions.specs.Changes.{TellSame}
+use Rattle.panel_conditions.specs.Parts.{HasTelling, finding_of}
 use Rattle.panel_conditions.specs.Told.{AreTold}
 use Rattle.panel_conditions.specs.Stands.{WatchesPoints, WatchesZone, WatchesZones, latest_stamp}
 use Rattle.panel_conditions.proofs.Latest.{latest-append}
@@ -93,15 +94,8 @@ module _ (group : FindingGroup) (test : Finding → Bool) (base : Bool) (is :
 
 -- ---- all that is kept of zones goes by the latest stamps
 
--- two lists of findings have the same of them
-record SameStamps (one other : List Finding) : Type 0 where
-  confirmed : (k : ℕ) → latest_stamp (λ f. has_bit f.confirmed k) one ≡ latest_stamp (λ f. has_bit f.confirmed k) other
-  called : (k : ℕ) → latest_stamp (λ f. has_bit f.manual k) one ≡ latest_stamp (λ f. has_bit f.manual k) other
-  released : (k : ℕ) → latest_stamp (λ f. has_bit f.released k) one ≡ latest_stamp (λ f. has_bit f.released k) other
-  told : (k : ℕ) → latest_stamp (λ f. has_bit f.counted k && not (has_bit f.manual k)) one
-      ≡ latest_stamp (λ f. has_bit f.counted k && not (has_bit f.manual k)) other
-
-zones_as : (site : Site) (panel : ℕ) (done : List Done) (taken one other : List Finding) (watches : List ZoneWatch) → SameStamps one other
+-- zones that took findings stand as after any others that tell the same
+pub zones_as : (site : Site) (panel : ℕ) (done : List Done) (taken one other : List Finding) (watches : List ZoneWatch) → TellSame one other
     → WatchesZones site panel done (taken ++ one) watches → WatchesZones site panel done (taken ++ other) watches
 zones_as site panel done taken one other watches same h =
     record { count = h.count; each = λ k watch is. still k watch (h.each k watch is) }
@@ -136,7 +130,7 @@ module _ (group : FindingGroup) (from count : ℕ) where
   abbrev items : List Finding
   items = map (finding_at group) (range_with_len from count)
 
-  same_as_one : (place : ℕ) → from ≤ place → place < from + count → has_bit group.telling place ≡ true → SameStamps (finding_at group place ∷ []) items
+  pub same_as_one : (place : ℕ) → from ≤ place → place < from + count → has_bit group.telling place ≡ true → TellSame (finding_at group place ∷ []) items
   same_as_one place le less tells = record {
     confirmed = λ k. latest_one group (λ f. has_bit f.confirmed k) (has_bit group.confirmed k) (λ p. bit_if (has_bit group.telling p) group.confirmed k)
         from count place le less tells;
@@ -148,7 +142,7 @@ module _ (group : FindingGroup) (from count : ℕ) where
         (λ p. bits_if (has_bit group.telling p) group.counted group.manual k) from count place le less tells;
   }
 
-  same_as_none : ((k : ℕ) → k < count → has_bit group.telling (from + k) ≡ false) → SameStamps [] items
+  pub same_as_none : ((k : ℕ) → k < count → has_bit group.telling (from + k) ≡ false) → TellSame [] items
   same_as_none none = record {
     confirmed = λ k. sym (latest_none group (λ f. has_bit f.confirmed k) (has_bit group.confirmed k) (λ p. bit_if (has_bit group.telling p) group.confirmed k)
         from count none);
@@ -160,17 +154,24 @@ module _ (group : FindingGroup) (from count : ℕ) where
         (λ p. bits_if (has_bit group.telling p) group.counted group.manual k) from count none);
   }
 
--- a finding that tells of zones is taken as one of no point in particular
-pub taken_as : (site : Site) (panel : ℕ) (done : List Done) (taken : List Finding) (group : FindingGroup) (place : ℕ) (watches : List ZoneWatch)
-    → has_bit group.telling place ≡ true → WatchesZones site panel done (taken ++ finding_of group.stamp (told_of group) ∷ []) watches
-    → WatchesZones site panel done (taken ++ finding_at group place ∷ []) watches
-taken_as site panel done taken group place watches tells h =
-    zones_as site panel done taken (finding_of group.stamp (told_of group) ∷ []) (finding_at group place ∷ []) watches (record {
-      confirmed = λ k. ap (λ b. latest_stamp (λ f. has_bit f.confirmed k) (at b ∷ [])) (sym tells);
-      called = λ k. ap (λ b. latest_stamp (λ f. has_bit f.manual k) (at b ∷ [])) (sym tells);
-      released = λ k. ap (λ b. latest_stamp (λ f. has_bit f.released k) (at b ∷ [])) (sym tells);
-      told = λ k. ap (λ b. latest_stamp (λ f. has_bit f.counted k && not (has_bit f.manual k)) (at b ∷ [])) (sym tells);
-    }) h
+-- findings that tell the same as others tell the same as what these do
+pub same_then : (one other third : List Finding) → TellSame one other → TellSame other third → TellSame one third
+same_then one other third a b = record {
+  confirmed = λ k. a.confirmed k ∙ b.confirmed k;
+  called = λ k. a.called k ∙ b.called k;
+  released = λ k. a.released k ∙ b.released k;
+  told = λ k. a.told k ∙ b.told k;
+}
+
+-- a finding that tells of zones tells the same as one of no point in particular
+same_at : (group : FindingGroup) (place : ℕ) → has_bit group.telling place ≡ true
+    → TellSame (finding_of group.stamp (told_of group) ∷ []) (finding_at group place ∷ [])
+same_at group place tells = record {
+  confirmed = λ k. ap (λ b. latest_stamp (λ f. has_bit f.confirmed k) (at b ∷ [])) (sym tells);
+  called = λ k. ap (λ b. latest_stamp (λ f. has_bit f.manual k) (at b ∷ [])) (sym tells);
+  released = λ k. ap (λ b. latest_stamp (λ f. has_bit f.released k) (at b ∷ [])) (sym tells);
+  told = λ k. ap (λ b. latest_stamp (λ f. has_bit f.counted k && not (has_bit f.manual k)) (at b ∷ [])) (sym tells);
+}
   where
     at : Bool → Finding
     at tells = record {
@@ -183,16 +184,14 @@ taken_as site panel done taken group place watches tells h =
       missing = has_bit group.missing place;
     }
 
--- a run is taken by one of its findings that tells
-pub taken_by_one : (site : Site) (panel : ℕ) (done : List Done) (taken : List Finding) (run : Run FindingGroup) (place : ℕ) (watches : List ZoneWatch)
-    → run.taken ≤ place → place < run.taken + run.count → has_bit run.first.telling place ≡ true
-    → WatchesZones site panel done (taken ++ finding_at run.first place ∷ []) watches
-    → WatchesZones site panel done (taken ++ items_of finding_at run) watches
-taken_by_one site panel done taken run place watches le less tells h =
-    zones_as site panel done taken (finding_at run.first place ∷ []) (items_of finding_at run) watches
-    (same_as_one run.first run.taken run.count place le less tells) h
+-- a run of which some tell of zones tells what these do
+pub run_tells : (run : Run FindingGroup) → HasTelling run → TellSame (finding_of run.first.stamp (told_of run.first) ∷ []) (items_of finding_at run)
+run_tells run some =
+    same_then (finding_of run.first.stamp (told_of run.first) ∷ []) (finding_at run.first some.place ∷ []) (items_of finding_at run)
+    (same_at run.first some.place some.tells)
+    (same_as_one run.first run.taken run.count some.place some.from some.below some.tells)
 
--- or by none where none tells
+-- a run of which none tells is taken by none
 pub taken_by_none : (site : Site) (panel : ℕ) (done : List Done) (taken : List Finding) (run : Run FindingGroup) (watches : List ZoneWatch)
     → ((k : ℕ) → k < run.count → has_bit run.first.telling (run.taken + k) ≡ false)
     → WatchesZones site panel done taken watches → WatchesZones site panel done (taken ++ items_of finding_at run) watches
@@ -200,7 +199,7 @@ taken_by_none site panel done taken run watches none h =
     zones_as site panel done taken [] (items_of finding_at run) watches (same_as_none run.first run.taken run.count none)
     (subst (λ l. WatchesZones site panel done l watches) (sym (append-nil taken)) h)
 
--- or by none where its group tells of no zone
+-- so is one whose group tells of no zone
 pub taken_by_nothing : (site : Site) (panel : ℕ) (done : List Done) (taken : List Finding) (run : Run FindingGroup) (watches : List ZoneWatch)
     → run.first.telling ≡ 0 → WatchesZones site panel done taken watches → WatchesZones site panel done (taken ++ items_of finding_at run) watches
 taken_by_nothing site panel done taken run watches none h =
@@ -232,17 +231,17 @@ run_again site kept panel done taken run points told h = all_again site kept pan
 
 -- where the item at a place of what stands in a run is this
 module _ {S : Type 0} (item_at : S → ℕ → Finding) where
-  -- one more item of a run
-  pub items_then : (first : S) (from place : ℕ) → from ≤ place →
-      map (item_at first) (range_with_len from (place + 1 - from))
-      ≡ map (item_at first) (range_with_len from (place - from)) ++ item_at first place ∷ []
-  items_then first from place le =
+  -- more items of a run
+  pub items_then : (first : S) (from place more : ℕ) → from ≤ place →
+      map (item_at first) (range_with_len from (place + more - from))
+      ≡ map (item_at first) (range_with_len from (place - from)) ++ map (item_at first) (range_with_len place more)
+  items_then first from place more le =
       let item = item_at first in
-      let count : place + 1 - from ≡ (place - from) + 1 = omega (arith, le) in
+      let count : place + more - from ≡ (place - from) + more = omega (arith, le) in
       let last : from + (place - from) ≡ place = omega (arith, le) in
-      ap (λ n. map item (range_with_len from n)) count ∙ ap (map item) (range_parts from (place - from) 1)
-      ∙ map-append item (range_with_len from (place - from)) (range_with_len (from + (place - from)) 1)
-      ∙ ap (λ n. map item (range_with_len from (place - from)) ++ item n ∷ []) last
+      ap (λ n. map item (range_with_len from n)) count ∙ ap (map item) (range_parts from (place - from) more)
+      ∙ map-append item (range_with_len from (place - from)) (range_with_len (from + (place - from)) more)
+      ∙ ap (λ n. map item (range_with_len from (place - from)) ++ map item (range_with_len n more)) last
 
   -- one more item of a run, behind those taken before
   pub item_more : (P : List Finding → Type 0) (taken : List Finding) (run : Run S) (place : ℕ) (f : Finding) → run.taken ≤ place
@@ -252,7 +251,7 @@ module _ {S : Type 0} (item_at : S → ℕ → Finding) where
   item_more P taken run place f le is h =
       let before = map (item_at run.first) (range_with_len run.taken (place - run.taken)) in
       subst P (append_assoc taken before (f ∷ []) ∙ ap (λ g. taken ++ (before ++ g ∷ [])) is
-      ∙ ap (λ l. taken ++ l) (sym (items_then run.first run.taken place le))) h
+      ∙ ap (λ l. taken ++ l) (sym (items_then run.first run.taken place 1 le))) h
 
   -- one more run
   pub run_more : (P : List Finding → Type 0) (taken : List Finding) (runs : List (Run S)) (k : ℕ) (d : Run S) → k < length runs

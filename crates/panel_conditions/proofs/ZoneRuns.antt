@@ -6,19 +6,18 @@ use Rattle.site_types.proofs.Masks.{has_bit-above}
 use Rattle.answer_lanes.specs.declared.finding_block.FindingBlock.{FindingBlock}
 use Rattle.answer_lanes.specs.declared.finding_group.FindingGroup.{FindingGroup}
 use Rattle.answer_lanes.specs.declared.run.Run.{Run}
-use Rattle.answer_lanes.specs.Blocks.{told_of}
 use Rattle.answer_lanes.specs.Points.{finding_at}
 use Rattle.answer_lanes.specs.Runs.{items_of}
 use Rattle.coincidence_rules.specs.declared.finding.Finding.{Finding}
 use Rattle.site_types.specs.Bits.{has_bit}
 use Rattle.panel_conditions.specs.declared.zones.Zones.{Zones}
-use Rattle.panel_conditions.specs.Parts.{HasTelling, IsShown, Marks, finding_of, told_by}
+use Rattle.panel_conditions.specs.Parts.{HasTelling, IsShown, Marks, told_by}
 use Rattle.panel_conditions.specs.Stands.{WatchesZones, ZonesTake}
-use Rattle.panel_conditions.specs.Changes.{TakesZones}
+use Rattle.panel_conditions.specs.Changes.{TakesTold, TakesZones}
 use Rattle.panel_conditions.specs.Told.{eight_run}
 use Rattle.panel_conditions.proofs.NextBit.{IsNext, next_from}
 use Rattle.panel_conditions.proofs.AlreadyShown.{settled_taken}
-use Rattle.panel_conditions.proofs.Runs.{taken_as, taken_by_none, taken_by_nothing, taken_by_one}
+use Rattle.panel_conditions.proofs.Runs.{taken_by_none, taken_by_nothing, zones_as}
 use Rattle.panel_conditions.proofs.Watched.{are_numbered, zones_more}
 
 -- a run of which none tells
@@ -67,20 +66,16 @@ eight_tells block number some small = record {
     beyond : 8 ≤ place → false ≡ true
     beyond far = sym (has_bit-above 8 mask place small far) ∙ next.set
 
--- a run of which some tell, by what these tell
-pub run_of_some : (run : Run FindingGroup) (f : Finding) (old mid zones : Zones) → HasTelling run
-    → finding_of run.first.stamp (told_of run.first) ≡ f
-    → ZonesTake f old mid → Marks f mid zones → (zones.watches ≡ mid.watches) × (zones.signs ≡ mid.signs) × (zones.moved ≡ mid.moved)
-    → TakesZones (items_of finding_at run) old zones
-run_of_some run f old mid zones some is took marks rest = record {
+-- what one finding tells of zones is taken of all that tell the same
+pub taken_as_told : (f : Finding) (old mid zones : Zones) → ZonesTake f old mid → Marks f mid zones
+    → (zones.watches ≡ mid.watches) × (zones.signs ≡ mid.signs) × (zones.moved ≡ mid.moved) → TakesTold f old zones
+taken_as_told f old mid zones took marks rest findings same = record {
   watches = λ site panel done taken h.
       let before = old.watches.items in
       let numbered = are_numbered site panel done taken before h in
-      subst (λ w. WatchesZones site panel done (taken ++ items_of finding_at run) w.items) (sym rest.0)
-      (taken_by_one site panel done taken run some.place mid.watches.items some.from some.below some.tells
-      (taken_as site panel done taken run.first some.place mid.watches.items some.tells
-      (subst (λ g. WatchesZones site panel done (taken ++ g ∷ []) mid.watches.items) (sym is)
-      (zones_more site panel done taken f before mid.watches.items took.count (took.watches numbered) h))));
+      subst (λ w. WatchesZones site panel done (taken ++ findings) w.items) (sym rest.0)
+      (zones_as site panel done taken (f ∷ []) findings mid.watches.items same
+      (zones_more site panel done taken f before mid.watches.items took.count (took.watches numbered) h));
   settled = λ site panel done taken tick h settled.
       let numbered = are_numbered site panel done taken old.watches.items h in
       settled_taken tick f old zones numbered (λ k. ap (λ w. slice_get w.items k) rest.0 ∙ took.watches numbered k) (rest.1 ∙ took.signs)

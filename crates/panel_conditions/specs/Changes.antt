@@ -1,24 +1,20 @@
 -- What a turn, findings and an operation make of the part that holds, and what it tells, whatever it stands for.
-use Rattle.std.specs.Prelude.{◌≡◌, ◌≤◌, ℕ, List, ◌∷◌, ◌++◌, false, take}
+use Rattle.std.specs.Prelude.{◌≡◌, ◌≤◌, ◌&&◌, ℕ, List, [], ◌∷◌, ◌++◌, false, not, take}
 use Rattle.tick_units.specs.Lane.{LaneState, turn_count}
 use Rattle.site_types.specs.declared.operation.Operation.{Operation}
 use Rattle.site_types.specs.declared.retained.Retained.{Retained}
 use Rattle.site_types.specs.declared.site.Site.{Site}
+use Rattle.site_types.specs.Bits.{has_bit}
 use Rattle.site_types.specs.Done.{Done, AreBy}
 use Rattle.coincidence_rules.specs.declared.finding.Finding.{Finding}
-use Rattle.answer_lanes.specs.declared.finding_group.FindingGroup.{FindingGroup}
-use Rattle.answer_lanes.specs.declared.run.Run.{Run}
-use Rattle.answer_lanes.specs.Blocks.{told_of}
-use Rattle.answer_lanes.specs.Points.{finding_at}
-use Rattle.answer_lanes.specs.Runs.{items_of}
 use Rattle.panel_conditions.specs.declared.hold.Hold.{Hold}
 use Rattle.panel_conditions.specs.declared.outside.Outside.{Outside}
 use Rattle.panel_conditions.specs.declared.points.Points.{Points}
 use Rattle.panel_conditions.specs.declared.shown.Shown.{Shown}
 use Rattle.panel_conditions.specs.declared.zones.Zones.{Zones}
-use Rattle.panel_conditions.specs.Parts.{HasTelling, finding_of}
 use Rattle.panel_conditions.specs.Stands.{HoldsFor, MayApply, MayNote, MayTurn, Settled}
 use Rattle.panel_conditions.specs.Stands.{ShownStays, ShowsThen, Watches, WatchesPoints, WatchesZones}
+use Rattle.panel_conditions.specs.Stands.{latest_stamp}
 use Rattle.panel_conditions.specs.Turns.{HoldTurn}
 
 -- the findings that a turn moves from the lane
@@ -89,11 +85,21 @@ pub record TakesZones (findings : List Finding) (old zones : Zones) : Type 0 whe
   pub settled : ZonesStaySettled old zones
   pub moved : zones.moved ≡ old.moved
 
--- by zones, the findings of any run are taken that tell of zones what this one does
+-- two lists of findings tell the same of each zone, by the latest stamps
+pub record TellSame (one other : List Finding) : Type 0 where
+  pub confirmed : (k : ℕ)
+      → latest_stamp (λ f. has_bit f.confirmed k) one ≡ latest_stamp (λ f. has_bit f.confirmed k) other
+  pub called : (k : ℕ)
+      → latest_stamp (λ f. has_bit f.manual k) one ≡ latest_stamp (λ f. has_bit f.manual k) other
+  pub released : (k : ℕ)
+      → latest_stamp (λ f. has_bit f.released k) one ≡ latest_stamp (λ f. has_bit f.released k) other
+  pub told : (k : ℕ) → latest_stamp (λ f. has_bit f.counted k && not (has_bit f.manual k)) one
+      ≡ latest_stamp (λ f. has_bit f.counted k && not (has_bit f.manual k)) other
+
+-- by zones, any findings are taken that tell of zones what this one does
 abbrev pub TakesTold : Finding → Zones → Zones → Type 0
 TakesTold finding old zones =
-    (run : Run FindingGroup) → HasTelling run → finding_of run.first.stamp (told_of run.first) ≡ finding
-    → TakesZones (items_of finding_at run) old zones
+    (findings : List Finding) → TellSame (finding ∷ []) findings → TakesZones findings old zones
 
 -- by points and by zones, these findings are taken after those before
 pub record BothTake (findings : List Finding) (first last : Points) (old new' : Zones) : Type 0 where

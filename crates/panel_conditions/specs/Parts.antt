@@ -1,6 +1,6 @@
 -- What the parts that hold make of a finding or an operation, and what they show at a tick.
 use Rattle.std.specs.Prelude.{◌≡◌, ◌⊎◌, ℕ, ◌-◌, Bool, true, false, not, List, Option, Some, None, slice_get}
-use Rattle.std.specs.Prelude.{bit_or, ◌+◌, ◌<◌, ◌≤◌, ◌==◌, ◌&&◌}
+use Rattle.std.specs.Prelude.{bit_or, ◌+◌, ◌<◌, ◌≤◌, ◌==◌, ◌&&◌, slice_index, slice_index_or}
 use Rattle.std.specs.Prelude.{nat_lt, nat_le, if◌then◌else◌}
 use Rattle.std.specs.Option.{is_some}
 use Rattle.tick_units.specs.declared.tick.Tick.{Tick}
@@ -15,9 +15,11 @@ use Rattle.site_types.specs.declared.operation.Operation.TheVariants.{Reset, Dis
 use Rattle.site_types.specs.Bits.{has_bit, mask_of}
 use Rattle.site_types.specs.Done.{is_cancel, kept_point, kept_zone}
 use Rattle.coincidence_rules.specs.declared.finding.Finding.{Finding}
+use Rattle.answer_lanes.specs.declared.finding_block.FindingBlock.{FindingBlock}
 use Rattle.answer_lanes.specs.declared.finding_group.FindingGroup.{FindingGroup}
 use Rattle.answer_lanes.specs.declared.run.Run.{Run}
 use Rattle.answer_lanes.specs.declared.told.Told.{Told}
+use Rattle.answer_lanes.specs.Blocks.{none_told}
 use Rattle.tick_units.specs.LastTicks.{last_at, last_if}
 use Rattle.panel_conditions.specs.declared.sign.Sign.{Sign}
 use Rattle.panel_conditions.specs.declared.sign.Sign.TheVariants.{Alarm, Manual, Released, First}
@@ -100,11 +102,36 @@ pub record TellsPlainly (bit : ℕ) (finding : Finding) : Type 0 where
   pub released : has_bit finding.released bit ≡ true
   pub manual : has_bit finding.manual bit ≡ false
 
--- a finding tells of each of its zones that an answer of a detector counted, confirmed it and released it
-pub record IsPlain (finding : Finding) : Type 0 where
-  pub counted : finding.counted ≡ finding.confirmed
-  pub released : finding.released ≡ finding.confirmed
-  pub manual : finding.manual ≡ 0
+-- of each of these zones it is told that an answer of a detector counted, confirmed it and released it
+abbrev pub plain_told : ℕ → Told
+plain_told zones = record { counted = zones; confirmed = zones; manual = 0; released = zones }
+
+-- of each zone that is told of no less and no more is told
+pub record IsPlain (told : Told) : Type 0 where
+  pub counted : told.counted ≡ told.confirmed
+  pub released : told.released ≡ told.confirmed
+  pub manual : told.manual ≡ 0
+
+-- one of a block's eights tells of its zones plainly, where it tells of any
+abbrev pub IsPlainEight : FindingBlock → ℕ → Type 0
+IsPlainEight block number =
+    0 < slice_index block.telling number → IsPlain (slice_index_or block.told number none_told)
+
+-- all eights of a block do
+abbrev pub ArePlain : FindingBlock → Type 0
+ArePlain block =
+    IsPlainEight block 0 × IsPlainEight block 1 × IsPlainEight block 2 × IsPlainEight block 3
+
+-- the zones that one of a block's eights confirms
+abbrev pub eight_confirms : FindingBlock → ℕ → ℕ
+eight_confirms block number =
+    if slice_index block.telling number == 0 then 0 else (slice_index_or block.told number none_told).confirmed
+
+-- the zones that a block's eights confirm
+abbrev pub block_confirms : FindingBlock → ℕ
+block_confirms block =
+    bit_or (bit_or (bit_or (eight_confirms block 0) (eight_confirms block 1)) (eight_confirms block 2))
+    (eight_confirms block 3)
 
 -- what findings to an asking tell of zones, as a finding of no point in particular
 abbrev pub finding_of : Tick → Told → Finding

@@ -21,9 +21,13 @@ abbrev pub TellMissing : List Finding → List Bool → Type 0
 TellMissing taken told = (place : ℕ) (b : Bool) → slice_get told place ≡ Some b
     → b ≡ missing_found taken place
 
+-- so many of a block's findings, from a place on
+abbrev pub part_of : FindingBlock → ℕ → ℕ → Run FindingBlock
+part_of block place count = record { first = block; taken = place; count = count }
+
 -- all that a block holds
 abbrev pub block_run : FindingBlock → Run FindingBlock
-block_run block = record { first = block; taken = 0; count = 32 }
+block_run block = part_of block 0 32
 
 -- all that one of a block's eights holds
 abbrev pub eight_run : FindingBlock → ℕ → Run FindingGroup

@@ -1,10 +1,11 @@
 //! How points and zones take the findings of a run of a lane.
 
-ghost use Rattle.std.specs.Prelude.{◌+◌, ◌≤◌};
+ghost use Rattle.std.specs.Prelude.{◌≡◌, ◌+◌, ◌<◌, ◌≤◌};
 ghost use Rattle.answer_lanes.specs.Blocks.{block_finding_at};
 ghost use Rattle.answer_lanes.specs.Points.{finding_at};
 ghost use Rattle.answer_lanes.specs.Runs.{HasShortCount, items_of};
 ghost use Rattle.panel_conditions.specs.Changes.{BothTake};
+ghost use Rattle.panel_conditions.specs.Told.{part_of};
 
 use crate::points::Points;
 use crate::zones::Zones;
@@ -22,7 +23,7 @@ pub fn take_run(points: &mut Points, zones: &mut Zones, run: &Run<FindingBlock>)
     } else if run.taken + run.count <= 8 {
         take_first_eight(points, zones, run);
     } else {
-        take_singly(points, zones, run);
+        take_eights(points, zones, run);
     }
 }
 
@@ -40,14 +41,37 @@ fn take_first_eight(points: &mut Points, zones: &mut Zones, run: &Run<FindingBlo
     take_narrow(points, zones, &eight);
 }
 
-// Takes the findings of a run one by one.
-fn take_singly(points: &mut Points, zones: &mut Zones, run: &Run<FindingBlock>)
+// Takes the findings of a run, one eight behind the other. It stands apart from the usual ways, so that these need not
+// share registers with it.
+#[inline(never)]
+fn take_eights(points: &mut Points, zones: &mut Zones, run: &Run<FindingBlock>)
     requires { HasShortCount run.now }
     ensures { BothTake (items_of block_finding_at run.now) points.old points.new zones.old
         zones.new }
 {
-    for place in run.taken..run.taken + run.count {
-        take_narrow(points, zones, &Run::one(run.item(place)));
+    let end = run.taken + run.count;
+    let mut place = run.taken;
+    while place < end {
+        let eight = part_of_eight(&run.first, place, end);
+        take_narrow(points, zones, &eight);
+        place += eight.count;
+    }
+}
+
+// The findings of a block from one place on, up to another, that stand in one eight.
+fn part_of_eight(block: &FindingBlock, place: u8, end: u8) -> Run<FindingGroup>
+    requires { place < end }
+    ensures items { items_of finding_at result
+        ≡ items_of block_finding_at (part_of block.now place result.count) }
+    ensures few { place + result.count ≤ end }
+    ensures some { 0 < result.count }
+    ensures eight { result.taken + result.count ≤ 8 }
+{
+    let taken = place % 8;
+    Run {
+        first: block.eight(place / 8),
+        taken,
+        count: (end - place).min(8 - taken),
     }
 }
 

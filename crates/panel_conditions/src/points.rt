@@ -101,6 +101,15 @@ impl Points {
         if self.told.has_block(block) {
             return;
         }
+        self.take_eights(block);
+    }
+
+    // Takes note of the findings of a whole block, one eight behind the other. It stands apart from the usual way, so
+    // that this need not share registers with it.
+    #[inline(never)]
+    fn take_eights(&mut self, block: &FindingBlock)
+        ensures { TakesPoints (items_of block_finding_at (block_run block.now)) self.old self.new }
+    {
         self.take_eight(block, 0);
         self.take_eight(block, 1);
         self.take_eight(block, 2);

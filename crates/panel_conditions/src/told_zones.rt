@@ -1,13 +1,14 @@
 //! What findings tell of zones.
 
-ghost use Rattle.std.specs.Prelude.{◌≡◌, ◌+◌, ◌<◌, ◌≤◌, ℕ, false, true};
+ghost use Rattle.std.specs.Prelude.{◌≡◌, ◌↔◌, ◌+◌, ◌<◌, ◌≤◌, ℕ, IfSome, None, false, true};
 ghost use Rattle.site_types.specs.Bits.{has_bit};
 ghost use Rattle.answer_lanes.specs.Runs.{HasShortCount};
-ghost use Rattle.panel_conditions.specs.Parts.{HasTelling, IsPlain, IsShown, finding_of as telling, told_by};
+ghost use Rattle.panel_conditions.specs.Parts.{ArePlain, HasTelling, IsPlain, IsPlainEight, IsShown};
+ghost use Rattle.panel_conditions.specs.Parts.{block_confirms, eight_confirms, finding_of as telling, told_by};
 
 use crate::next_bit::lowest_bit;
 use crate::signs::Signs;
-use answer_lanes::{FindingGroup, Run, Told};
+use answer_lanes::{FindingBlock, FindingGroup, Run, Told};
 use coincidence_rules::Finding;
 use tick_units::Tick;
 
@@ -26,13 +27,44 @@ pub fn finding_of(stamp: Tick, told: &Told) -> Finding
     }
 }
 
-/// Whether a finding tells of each of its zones that an answer of a detector counted, confirmed it and released it.
-pub fn is_plain(finding: &Finding) -> bool
-    ensures { result ≡ true → IsPlain finding.now }
+/// Whether an answer of a detector counted, confirmed and released each zone of which is told, and no more is told.
+pub fn is_plain(told: &Told) -> bool
+    ensures { (result ≡ true) ↔ IsPlain told.now }
 {
-    finding.manual == 0
-        && finding.counted == finding.confirmed
-        && finding.released == finding.confirmed
+    told.manual == 0 && told.counted == told.confirmed && told.released == told.confirmed
+}
+
+/// The zones that a block's eights confirm, where each eight that tells of any tells of them plainly.
+pub fn plain_zones(block: &FindingBlock) -> Option<u32>
+    ensures plain { IfSome result (λ zones. ArePlain block.now
+        × (zones ≡ block_confirms block.now)) }
+    ensures other { result ≡ None → ¬ ArePlain block.now }
+{
+    let first = plain_in(block, 0)?;
+    let second = plain_in(block, 1)?;
+    let third = plain_in(block, 2)?;
+    let fourth = plain_in(block, 3)?;
+    Some(first | second | third | fourth)
+}
+
+// The zones that one of a block's eights confirms, where it tells of them plainly; none where it tells of none.
+#[inline(always)]
+fn plain_in(block: &FindingBlock, number: u8) -> Option<u32>
+    requires { number < 4 }
+    ensures plain { IfSome result (λ zones. IsPlainEight block.now number
+        × (zones ≡ eight_confirms block.now number)) }
+    ensures other { result ≡ None → ¬ IsPlainEight block.now number }
+{
+    let place = number as usize;
+    if block.telling[place] == 0 {
+        return Some(0);
+    }
+    let told = &block.told[place];
+    if is_plain(told) {
+        Some(told.confirmed)
+    } else {
+        None
+    }
 }
 
 /// Whether any of a run's findings tells of zones. Mostly the group's first that does is one of them.

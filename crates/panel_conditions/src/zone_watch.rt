@@ -65,14 +65,14 @@ impl ZoneWatch {
         raise_if(told, finding.stamp, &mut self.told);
     }
 
-    /// Takes note of a finding that confirms the zone plainly.
-    pub fn confirm(&mut self, finding: &Finding)
-        ensures { (bit : ℕ) → TellsPlainly bit finding.now
-            → self.new ≡ zone_told bit finding.now self.old }
+    /// Takes note of a finding of a stamp that confirms the zone plainly.
+    pub fn confirm(&mut self, stamp: Tick)
+        ensures { (bit : ℕ) (finding : Finding) → finding.stamp ≡ stamp → TellsPlainly bit finding
+            → self.new ≡ zone_told bit finding self.old }
     {
-        raise_if(true, finding.stamp, &mut self.confirmed);
-        raise_if(true, finding.stamp, &mut self.released);
-        raise_if(true, finding.stamp, &mut self.told);
+        raise_if(true, stamp, &mut self.confirmed);
+        raise_if(true, stamp, &mut self.released);
+        raise_if(true, stamp, &mut self.told);
     }
 
     /// Takes note of an operation that was done in a tick.

@@ -8,7 +8,7 @@ ghost use Rattle.answer_lanes.specs.Runs.{HasShortCount, items_of};
 use crate::next_bit::lowest_bit;
 use crate::sign::Sign;
 use crate::signs::Signs;
-use crate::told_zones::{finding_of, is_plain, is_shown, tells_any, told};
+use crate::told_zones::{finding_of, is_plain, is_shown, plain_zones, tells_any, told};
 use crate::zone_watch::ZoneWatch;
 use answer_lanes::{FindingBlock, FindingGroup, Run, Told};
 use coincidence_rules::Finding;
@@ -33,7 +33,7 @@ pub struct Zones {
 
 impl Zones {
     ghost use Rattle.panel_conditions.specs.Parts.{drawn_mask, later_tick, signs_at, told_by, watch_shows, zone_done};
-    ghost use Rattle.panel_conditions.specs.Parts.{IsPlain, Marks, TellsPlainly, finding_of, zone_taken_at};
+    ghost use Rattle.panel_conditions.specs.Parts.{Marks, TellsPlainly, finding_of, plain_told, zone_taken_at};
     ghost use Rattle.panel_conditions.specs.Changes.{TakesTold, TakesZones, WatchesZonesMore, ZonesStaySettled};
     ghost use Rattle.panel_conditions.specs.Stands.{Settled, ZonesTake, first_watch, are_first_watches};
     ghost use Rattle.panel_conditions.specs.Told.{block_run, eight_run};
@@ -78,7 +78,8 @@ impl Zones {
         self.take_told(run.first.stamp, &told);
     }
 
-    /// Takes note of the findings of a whole block, where any tells of zones.
+    /// Takes note of the findings of a whole block, where any tells of zones. All have one stamp, so what its eights
+    /// tell plainly is taken at once.
     pub fn take_block(&mut self, block: &FindingBlock)
         ensures { TakesZones (items_of block_finding_at (block_run block.now)) self.old self.new }
     {
@@ -86,6 +87,18 @@ impl Zones {
         if first | second | third | fourth == 0 {
             return;
         }
+        match plain_zones(block) {
+            Some(zones) => self.take_plainly(block.stamp, zones),
+            None => self.take_eights(block),
+        }
+    }
+
+    // Takes note of the findings of a whole block, one eight behind the other. It stands apart from the usual way, so
+    // that this need not share registers with it.
+    #[inline(never)]
+    fn take_eights(&mut self, block: &FindingBlock)
+        ensures { TakesZones (items_of block_finding_at (block_run block.now)) self.old self.new }
+    {
         self.take_eight(block, 0);
         self.take_eight(block, 1);
         self.take_eight(block, 2);
@@ -108,25 +121,39 @@ impl Zones {
     fn take_told(&mut self, stamp: Tick, told: &Told)
         ensures { TakesTold (finding_of stamp told.now) self.old self.new }
     {
-        let finding = finding_of(stamp, told);
-        if is_plain(&finding) {
-            self.take_plain(&finding);
-            self.mark_plain(&finding);
+        if is_plain(told) {
+            self.take_plainly(stamp, told.confirmed);
         } else {
-            self.take_each(&finding);
-            self.mark(&finding);
+            self.take_all(&finding_of(stamp, told));
         }
     }
 
-    // Takes note of a finding that confirms zones plainly.
-    fn take_plain(&mut self, finding: &Finding)
-        requires { IsPlain finding.now }
-        ensures { ZonesTake finding.now self.old self.new }
+    // Takes note of all that a finding tells of zones. It stands apart as well.
+    #[inline(never)]
+    fn take_all(&mut self, finding: &Finding)
+        ensures { TakesTold finding.now self.old self.new }
     {
-        let mut left = finding.confirmed;
+        self.take_each(finding);
+        self.mark(finding);
+    }
+
+    // Takes note of findings of a stamp that confirm zones plainly.
+    #[inline(never)]
+    fn take_plainly(&mut self, stamp: Tick, zones: u32)
+        ensures { TakesTold (finding_of stamp (plain_told zones)) self.old self.new }
+    {
+        self.take_plain(stamp, zones);
+        self.mark_plain(zones);
+    }
+
+    // Takes note of findings of a stamp in each zone that they confirm plainly.
+    fn take_plain(&mut self, stamp: Tick, zones: u32)
+        ensures { ZonesTake (finding_of stamp (plain_told zones)) self.old self.new }
+    {
+        let mut left = zones;
         while left != 0 {
             let k = lowest_bit(left);
-            self.confirm_at(k, finding);
+            self.confirm_at(k, stamp);
             left = with_bit_32(left, k, false);
         }
     }
@@ -143,16 +170,16 @@ impl Zones {
         }
     }
 
-    // Marks the zones that a finding confirms plainly, where any of them isn't shown both in alarm and released.
-    fn mark_plain(&mut self, finding: &Finding)
-        requires { IsPlain finding.now }
-        ensures marks { Marks finding.now self.old self.new }
+    // Marks zones that findings confirm plainly, where any of them isn't shown both in alarm and released.
+    fn mark_plain(&mut self, zones: u32)
+        ensures marks { (stamp : Tick)
+            → Marks (finding_of stamp (plain_told zones)) self.old self.new }
         ensures rest { (self.new.watches ≡ self.old.watches) × (self.new.signs ≡ self.old.signs)
             × (self.new.moved ≡ self.old.moved) }
     {
-        let shown = finding.confirmed & self.signs.alarm & self.signs.released;
-        if shown != finding.confirmed {
-            self.changed |= finding.confirmed;
+        let shown = zones & self.signs.alarm & self.signs.released;
+        if shown != zones {
+            self.changed |= zones;
         }
     }
 
@@ -184,11 +211,10 @@ impl Zones {
         }
     }
 
-    // Takes note of a finding that confirms the zone at a place plainly.
-    fn confirm_at(&mut self, k: u8, finding: &Finding)
-        requires { TellsPlainly k finding.now }
-        ensures watches { (j : ℕ)
-            → slice_get self.new.watches.items j ≡ option_map (zone_taken_at k finding.now j)
+    // Takes note of a finding of a stamp that confirms the zone at a place plainly.
+    fn confirm_at(&mut self, k: u8, stamp: Tick)
+        ensures watches { (finding : Finding) → finding.stamp ≡ stamp → TellsPlainly k finding
+            → (j : ℕ) → slice_get self.new.watches.items j ≡ option_map (zone_taken_at k finding j)
             (slice_get self.old.watches.items j) }
         ensures count { length self.new.watches.items ≡ length self.old.watches.items }
         ensures rest { (self.new.changed ≡ self.old.changed) × (self.new.signs ≡ self.old.signs)
@@ -197,7 +223,7 @@ impl Zones {
         let place = k as usize;
         if place < self.watches.len() {
             let watch = &mut self.watches[place];
-            watch.confirm(finding);
+            watch.confirm(stamp);
         }
     }
 

@@ -1,5 +1,8 @@
-use Rattle.std.proofs.Common.{refl, arith}
+use Rattle.std.proofs.Common.{arith}
+use Rattle.answer_lanes.specs.Points.{finding_at}
+use Rattle.answer_lanes.specs.Runs.{items_of}
 use Rattle.panel_conditions.specs.Told.{eight_run}
+use Rattle.panel_conditions.proofs.Runs.{run_tells}
 use Rattle.panel_conditions.proofs.ZoneRuns.{eight_tells, run_of_nothing}
 use Rattle.panel_conditions.proofs.zones.Zones.take_eight.Goals as goal
 
@@ -8,4 +11,5 @@ returns-then-block-place-eq0 c = run_of_nothing (eight_run c.args.block.now c.ar
 
 pub returns : goal.returns
 returns c =
-    c.take_told.ensures (eight_run c.args.block.now c.args.number) (eight_tells c.args.block.now c.args.number (omega arith) (omega arith)) refl
+    let eight = eight_run c.args.block.now c.args.number in
+    c.take_told.ensures (items_of finding_at eight) (run_tells eight (eight_tells c.args.block.now c.args.number (omega arith) (omega arith)))
