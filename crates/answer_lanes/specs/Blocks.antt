@@ -1,10 +1,12 @@
 -- Blocks of four eights of points, asked in one tick.
-use Rattle.std.specs.Prelude.{◌≡◌, ◌/◌, ◌%◌, [], ◌∷◌, ℕ, All, List, slice_index, slice_index_or}
+use Rattle.std.specs.Prelude.{◌≡◌, ◌/◌, ◌%◌, [], ◌∷◌, ℕ, All, List, if◌then◌else◌, slice_index, slice_index_or}
+use Rattle.site_types.specs.Bits.{has_bit}
 use Rattle.site_types.specs.declared.answer.Answer.{Answer}
 use Rattle.coincidence_rules.specs.declared.finding.Finding.{Finding}
 use Rattle.answer_lanes.specs.declared.answer_block.AnswerBlock.{AnswerBlock}
 use Rattle.answer_lanes.specs.declared.answer_group.AnswerGroup.{AnswerGroup}
 use Rattle.answer_lanes.specs.declared.finding_block.FindingBlock.{FindingBlock}
+use Rattle.answer_lanes.specs.declared.finding_eight.FindingEight.{FindingEight}
 use Rattle.answer_lanes.specs.declared.finding_group.FindingGroup.{FindingGroup}
 use Rattle.answer_lanes.specs.declared.told.Told.{Told}
 use Rattle.answer_lanes.specs.Points.{answer_at, finding_at}
@@ -27,34 +29,60 @@ abbrev pub none_told : Told
 none_told = record { counted = 0; confirmed = 0; manual = 0; released = 0 }
 
 -- what the findings of a group tell of zones that tell of any
-abbrev pub told_of : FindingGroup → Told
-told_of group = record {
+abbrev pub group_tells : FindingGroup → Told
+group_tells group = record {
   counted = group.counted;
   confirmed = group.confirmed;
   manual = group.manual;
   released = group.released;
 }
 
--- the points of groups were all asked in the tick of the first one
-abbrev pub AreOfStamp : List FindingGroup → Type 0
+-- the findings of a group, where those that tell do so plainly of these zones: they count, confirm and release
+abbrev pub plainly : ℕ → FindingGroup → FindingGroup
+plainly zones group = record {
+  stamp = group.stamp;
+  point = group.point;
+  missing = group.missing;
+  telling = group.telling;
+  counted = zones;
+  confirmed = zones;
+  manual = 0;
+  released = zones;
+}
+
+-- the finding at a place of an eight: that of its group, or one that tells plainly of the other zones
+abbrev pub eight_finding_at : FindingEight → ℕ → Finding
+eight_finding_at eight place =
+    finding_at (if has_bit eight.others place then plainly eight.other_zones eight.group else eight.group) place
+
+-- the findings of a group as an eight: none tells of other zones
+abbrev pub eight_of_group : FindingGroup → FindingEight
+eight_of_group group = record { group = group; others = 0; other_zones = 0 }
+
+-- the points of eights were all asked in the tick of the first one
+abbrev pub AreOfStamp : List FindingEight → Type 0
 AreOfStamp [] = Unit {0}
-AreOfStamp (group ∷ groups) = All (λ other. other.stamp ≡ group.stamp) groups
+AreOfStamp (eight ∷ eights) = All (λ other. other.group.stamp ≡ eight.group.stamp) eights
 
 -- one of the eights of a block of findings, counted from 0
-abbrev pub eight_found : FindingBlock → ℕ → FindingGroup
+abbrev pub eight_found : FindingBlock → ℕ → FindingEight
 eight_found block number =
     let told = slice_index_or block.told number none_told in
     record {
-      stamp = block.stamp;
-      point = slice_index block.firsts number;
-      missing = slice_index block.missing number;
-      telling = slice_index block.telling number;
-      counted = told.counted;
-      confirmed = told.confirmed;
-      manual = told.manual;
-      released = told.released;
+      group = record {
+        stamp = block.stamp;
+        point = slice_index block.firsts number;
+        missing = slice_index block.missing number;
+        telling = slice_index block.telling number;
+        counted = told.counted;
+        confirmed = told.confirmed;
+        manual = told.manual;
+        released = told.released;
+      };
+      others = slice_index block.others number;
+      other_zones = slice_index block.other_zones number;
     }
 
 -- the finding at a place of a block, eight for each eight
 abbrev pub block_finding_at : FindingBlock → ℕ → Finding
-block_finding_at block place = finding_at (eight_found block (place / 8)) (place % 8)
+block_finding_at block place = eight_finding_at (eight_found block (place / 8)) (place % 8)

@@ -1,14 +1,14 @@
 ghost use Rattle.std.specs.Prelude.{◌≡◌, slice_index_or};
 ghost use Rattle.answer_lanes.specs.Blocks.{block_finding_at, eight_found};
 
+use crate::finding_eight::FindingEight;
 use crate::finding_group::FindingGroup;
 use crate::several::Several;
 use crate::told::Told;
 use coincidence_rules::Finding;
 use tick_units::Tick;
 
-/// The findings of answers to one asking, of four eights of points. Those of an eight that tell of zones tell the same
-/// of them.
+/// The findings of answers to one asking, of four eights of points, each as a [`FindingEight`] has them.
 #[derive(Clone, Copy, Debug, Default)]
 pub struct FindingBlock {
     /// The tick in which the points were asked.
@@ -21,30 +21,38 @@ pub struct FindingBlock {
     pub telling: [u8; 4],
     /// What those of each eight tell.
     pub told: [Told; 4],
+    /// Which of those of each eight tell plainly of other zones instead.
+    pub others: [u8; 4],
+    /// These other zones, bit `number - 1`.
+    pub other_zones: [u32; 4],
 }
 
 impl FindingBlock {
     /// One of the four eights, counted from 0. There is none behind the fourth.
-    pub fn eight(&self, number: u8) -> FindingGroup
+    pub fn eight(&self, number: u8) -> FindingEight
         ensures { result ≡ eight_found self.now number }
     {
         let place = number as usize;
         if place >= 4 {
-            return FindingGroup {
+            return FindingEight::from(FindingGroup {
                 stamp: self.stamp,
                 ..FindingGroup::default()
-            };
+            });
         }
         let told = self.told[place];
-        FindingGroup {
-            stamp: self.stamp,
-            point: self.firsts[place],
-            missing: self.missing[place],
-            telling: self.telling[place],
-            counted: told.counted,
-            confirmed: told.confirmed,
-            manual: told.manual,
-            released: told.released,
+        FindingEight {
+            group: FindingGroup {
+                stamp: self.stamp,
+                point: self.firsts[place],
+                missing: self.missing[place],
+                telling: self.telling[place],
+                counted: told.counted,
+                confirmed: told.confirmed,
+                manual: told.manual,
+                released: told.released,
+            },
+            others: self.others[place],
+            other_zones: self.other_zones[place],
         }
     }
 }
@@ -53,7 +61,8 @@ impl FindingBlock {
     ghost use Rattle.answer_lanes.specs.Blocks.{AreOfStamp};
 
     /// The findings of four eights that were asked in one tick.
-    pub fn of(eights: &[FindingGroup; 4]) -> FindingBlock
+    #[inline(always)]
+    pub fn of(eights: &[FindingEight; 4]) -> FindingBlock
         requires { AreOfStamp eights.now }
         ensures first { eight_found result 0 ≡ slice_index_or eights.now 0 (eight_found result 0) }
         ensures second { eight_found result 1 ≡ slice_index_or eights.now 1 (eight_found result 1) }
@@ -62,20 +71,23 @@ impl FindingBlock {
     {
         let [a, b, c, d] = eights;
         FindingBlock {
-            stamp: a.stamp,
-            firsts: [a.point, b.point, c.point, d.point],
-            missing: [a.missing, b.missing, c.missing, d.missing],
-            telling: [a.telling, b.telling, c.telling, d.telling],
-            told: [told_in(a), told_in(b), told_in(c), told_in(d)],
+            stamp: a.group.stamp,
+            firsts: [a.group.point, b.group.point, c.group.point, d.group.point],
+            missing: [a.group.missing, b.group.missing, c.group.missing, d.group.missing],
+            telling: [a.group.telling, b.group.telling, c.group.telling, d.group.telling],
+            told: [told_in(&a.group), told_in(&b.group), told_in(&c.group), told_in(&d.group)],
+            others: [a.others, b.others, c.others, d.others],
+            other_zones: [a.other_zones, b.other_zones, c.other_zones, d.other_zones],
         }
     }
 }
 
-ghost use Rattle.answer_lanes.specs.Blocks.{told_of};
+ghost use Rattle.answer_lanes.specs.Blocks.{group_tells};
 
 // What the findings of a group tell of zones that tell of any.
+#[inline(always)]
 fn told_in(group: &FindingGroup) -> Told
-    ensures { result ≡ told_of group.now }
+    ensures { result ≡ group_tells group.now }
 {
     Told {
         counted: group.counted,
@@ -86,22 +98,20 @@ fn told_in(group: &FindingGroup) -> Told
 }
 
 impl From<FindingGroup> for FindingBlock {
+    ghost use Rattle.answer_lanes.specs.Blocks.{eight_of_group};
+
     /// The findings of one eight.
     fn from(group: FindingGroup) -> FindingBlock
-        ensures { eight_found result 0 ≡ group }
+        ensures { eight_found result 0 ≡ eight_of_group group }
     {
-        let told = Told {
-            counted: group.counted,
-            confirmed: group.confirmed,
-            manual: group.manual,
-            released: group.released,
-        };
         FindingBlock {
             stamp: group.stamp,
             firsts: [group.point, 0, 0, 0],
             missing: [group.missing, 0, 0, 0],
             telling: [group.telling, 0, 0, 0],
-            told: [told, Told::default(), Told::default(), Told::default()],
+            told: [told_in(&group), Told::default(), Told::default(), Told::default()],
+            others: [0; 4],
+            other_zones: [0; 4],
         }
     }
 }
