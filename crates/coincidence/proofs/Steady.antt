@@ -1,8 +1,9 @@
 -- Answers that leave all that is kept as it is are told of at once, eight by eight.
 use Rattle.std.proofs.Common.{◌+◌, Bool, bit_and, ◌≤◌, true, false, not, ◌&&◌, if◌then◌else◌, ◌≡◌, ℕ, zero, suc, ◌<◌, List, [], ◌∷◌, ◌++◌}
-use Rattle.std.proofs.Common.{refl, slice_index, slice_index_or, sym, ◌∙◌, ap, subst, arith}
+use Rattle.std.proofs.Common.{map, nat_lt, refl, slice_index, slice_index_or, sym, ◌∙◌, ap, subst, arith}
 use Rattle.std.proofs.lemmas.Nat.{and_le_l, and_le_r}
-use Rattle.tick_units.specs.Lane.{LaneState, with_put}
+use Rattle.std.specs.List.{range_with_len}
+use Rattle.tick_units.specs.Lane.{with_put}
 use Rattle.site_types.specs.declared.answer.Answer.{Answer}
 use Rattle.site_types.specs.Bits.{has_bit}
 use Rattle.site_types.specs.declared.heard.Heard.TheVariants.{Alarm, Quiet, Silent}
@@ -12,34 +13,34 @@ use Rattle.coincidence_rules.specs.declared.finding.Finding.{Finding}
 use Rattle.answer_lanes.specs.declared.answer_block.AnswerBlock.{AnswerBlock}
 use Rattle.answer_lanes.specs.declared.answer_group.AnswerGroup.{AnswerGroup}
 use Rattle.answer_lanes.specs.declared.finding_block.FindingBlock.{FindingBlock}
+use Rattle.answer_lanes.specs.declared.finding_eight.FindingEight.{FindingEight}
 use Rattle.answer_lanes.specs.declared.finding_group.FindingGroup.{FindingGroup}
 use Rattle.answer_lanes.specs.declared.run.Run.{Run}
-use Rattle.answer_lanes.specs.Blocks.{block_answer_at, eight_found, eight_of, none_told}
+use Rattle.answer_lanes.specs.Blocks.{block_answer_at, eight_finding_at, eight_found, eight_of, eight_of_group, none_told, plainly}
 use Rattle.answer_lanes.specs.Points.{answer_at, finding_at, heard_at, mask_if}
 use Rattle.answer_lanes.specs.Runs.{items_of}
 use Rattle.coincidence.specs.declared.decide.Decide.{Decide}
-use Rattle.coincidence.specs.declared.zone_part.ZonePart.{ZonePart}
-use Rattle.coincidence.specs.Changes.{PutsFindings, TakesAnswerRun, TakesAnswers}
-use Rattle.coincidence.specs.GoingOn.{ConfirmsPart, telling_of}
-use Rattle.coincidence.specs.Resting.{AreStill, IsPlainAt, LeavesPoint, TellsChanging, plain_of}
+use Rattle.coincidence.specs.Changes.{FindsNext, PutsFindings, TakesAnswers}
+use Rattle.coincidence.specs.GoingOn.{ConfirmsAgain, telling_of}
+use Rattle.coincidence.specs.Resting.{AreStill, LeavesPoint, TellsChanging, plain_of}
 use Rattle.coincidence.specs.Parts.{is_at_rest}
 use Rattle.coincidence.specs.Places.{TellsEight}
 use Rattle.coincidence.specs.Stands.{CanTake}
-use Rattle.coincidence.specs.Steady.{AreSilentIn, AreSteady, IsPlainBlock, IsSteadyBlock, all_of_block, all_of_eight}
+use Rattle.coincidence.specs.Steady.{AreSilentIn, AreSteady, IsPlainBlock, IsPlainEight, IsSteadyBlock, all_of_block, all_of_eight}
+use Rattle.answer_lanes.proofs.Blocks.{finding_of_group}
 use Rattle.answer_lanes.proofs.MaskBits.{lt_is}
 use Rattle.coincidence.proofs.PlaceSets.{ones_have}
-use Rattle.coincidence.proofs.Resting.{still_quiet}
+use Rattle.coincidence.proofs.Resting.{finds_at_rest, still_quiet, takes_one_at_rest}
 use Rattle.coincidence.proofs.FindingIs.{same_finding}
-use Rattle.coincidence.proofs.Passed.{going_part, still_run}
-use Rattle.coincidence.proofs.Turned.{can_behind, can_front, put_both, put_none, puts_both, puts_none, takes_both, takes_none}
+use Rattle.coincidence.proofs.Turned.{can_behind, can_front, put_both, put_none, puts_both, puts_none, puts_one, takes_both, takes_none}
 use Rattle.site_types.proofs.Masks.{has_bit-zero}
 
 -- the answers of an eight, and its findings
 abbrev pub answers_in : AnswerGroup → List Answer
 answers_in eight = items_of answer_at (all_of_eight eight)
 
-abbrev pub found_in : FindingGroup → List Finding
-found_in eight = items_of finding_at (all_of_eight eight)
+abbrev pub found_in : FindingEight → List Finding
+found_in eight = items_of eight_finding_at (all_of_eight eight)
 
 none_steady : (decide : Decide) → AreSteady decide [] []
 none_steady decide = record {
@@ -68,35 +69,67 @@ steady_block decide block found each =
     let second = more_steady decide (a 1) (a 2 ++ (a 3 ++ [])) (f 1) (f 2 ++ (f 3 ++ [])) (each 1 (omega arith)) third in
     more_steady decide (a 0) (a 1 ++ (a 2 ++ (a 3 ++ []))) (f 0) (f 1 ++ (f 2 ++ (f 3 ++ []))) (each 0 (omega arith)) second
 
-no_lane : LaneState Finding
-no_lane = record { items = []; put = 0; taken = 0; quota = 0; capacity = 0 }
+-- ---- each answer of an eight
+
+steady_from : (decide : Decide) (answers : AnswerGroup) (found : FindingEight) (taken count : ℕ)
+    → ((k : ℕ) → k < taken + count → AreSteady decide (answer_at answers k ∷ []) (eight_finding_at found k ∷ []))
+    → AreSteady decide (map (answer_at answers) (range_with_len taken count)) (map (eight_finding_at found) (range_with_len taken count))
+steady_from decide answers found taken zero each = none_steady decide
+steady_from decide answers found taken (suc count) each =
+    more_steady decide (answer_at answers taken ∷ []) (map (answer_at answers) (range_with_len (taken + 1) count)) (eight_finding_at found taken ∷ [])
+    (map (eight_finding_at found) (range_with_len (taken + 1) count)) (each taken (omega arith))
+    (steady_from decide answers found (taken + 1) count (λ k small. each k (omega (arith, small))))
+
+-- where each answer of an eight leaves all that is kept as it is, the eight does
+steady_each : (decide : Decide) (answers : AnswerGroup) (found : FindingEight)
+    → ((k : ℕ) → k < 8 → AreSteady decide (answer_at answers k ∷ []) (eight_finding_at found k ∷ []))
+    → AreSteady decide (answers_in answers) (found_in found)
+steady_each decide answers found each = steady_from decide answers found 0 8 (λ k small. each k (omega (arith, small)))
+
+steady_one : (decide : Decide) (answer : Answer) (finding : Finding) → TakesAnswers decide (answer ∷ []) decide → FindsNext decide answer finding
+    → AreSteady decide (answer ∷ []) (finding ∷ [])
+steady_one decide answer finding takes finds = record {
+  taken = takes;
+  put = λ lane. puts_one decide answer finding lane (with_put lane (finding ∷ [])) finds refl;
+}
 
 -- an eight of which no answer may change what is kept
-pub plain_eight : (decide : Decide) (answers : AnswerGroup) (found : FindingGroup) (changing : ℕ) → ((k : ℕ) → IsPlainAt k answers found)
+pub plain_eight : (decide : Decide) (answers : AnswerGroup) (found : FindingEight) (changing : ℕ) → IsPlainEight answers found
     → TellsChanging decide (all_of_eight answers) changing → changing ≡ 0 → AreSteady decide (answers_in answers) (found_in found)
-plain_eight decide answers found changing plain tells none = record {
-  taken = (passed no_lane).taken;
-  put = λ lane. (passed lane).put;
-}
-  where
-    passed : (lane : LaneState Finding) → TakesAnswerRun decide (all_of_eight answers) lane decide (with_put lane (found_in found))
-    passed lane = still_run decide (all_of_eight answers) lane (with_put lane (found_in found)) found changing plain tells none refl
+plain_eight decide answers found changing plain tells none =
+    steady_each decide answers found
+    (λ k small.
+    let here : 0 + k ≡ k = omega arith in
+    let clear = ap (λ m. has_bit m k) none ∙ has_bit-zero k in
+    let item = answer_at answers k in
+    let leaves_point = subst (λ n. LeavesPoint decide (answer_at answers n)) here (tells.left k small clear) in
+    steady_one decide item (eight_finding_at found k) (takes_one_at_rest decide item leaves_point)
+    (subst (FindsNext decide item) (sym (plain k)) (finds_at_rest decide item leaves_point)))
 
--- and one of which those that may are alarms of one zone that go on
-pub going_eight : (decide : Decide) (answers : AnswerGroup) (found : FindingGroup) (changing : ℕ) (part : ZonePart)
-    → ((k : ℕ) → finding_at found k ≡ telling_of part.zones (answer_at answers k)) → TellsChanging decide (all_of_eight answers) changing
-    → ConfirmsPart decide (all_of_eight answers) changing part → part.behind ≡ 0 → AreSteady decide (answers_in answers) (found_in found)
-going_eight decide answers found changing part told tells confirms none = record {
-  taken = (passed no_lane).0;
-  put = λ lane. (passed lane).1;
-}
+-- the findings of a group are plain as those of an eight
+pub plain_group_is : (answers : AnswerGroup) (group : FindingGroup) → ((k : ℕ) → finding_at group k ≡ plain_of (answer_at answers k))
+    → IsPlainEight answers (eight_of_group group)
+plain_group_is answers group plain k = finding_of_group (eight_of_group group) k (has_bit-zero k) ∙ plain k
+
+-- an eight of which those in front may confirm and release some zones, and the others other ones
+pub split_eight : (decide : Decide) (answers : AnswerGroup) (found : FindingEight) (front zones : ℕ)
+    → ((k : ℕ) → finding_at found.group k ≡ telling_of zones (answer_at answers k))
+    → ((other k : ℕ) → finding_at (plainly other found.group) k ≡ telling_of other (answer_at answers k))
+    → ((k : ℕ) → k < 8 → has_bit found.others k ≡ not (nat_lt k front))
+    → ((k : ℕ) → k < 8 → ConfirmsAgain decide (answer_at answers k) (if nat_lt k front then zones else found.other_zones))
+    → AreSteady decide (answers_in answers) (found_in found)
+split_eight decide answers found front zones own others bits again =
+    steady_each decide answers found
+    (λ k small.
+    let item = answer_at answers k in
+    let one = again k small in
+    let is = ap (λ b. finding_at (if b then plainly found.other_zones found.group else found.group) k) (bits k small) ∙ by k (nat_lt k front) in
+    steady_one decide item (eight_finding_at found k) one.taken (subst (FindsNext decide item) (sym is) one.found))
   where
-    passed : (lane : LaneState Finding) → TakesAnswers decide (answers_in answers) decide
-        × PutsFindings decide (answers_in answers) lane (with_put lane (found_in found))
-    passed lane =
-        let run = all_of_eight answers in
-        going_part decide run lane lane (with_put lane (found_in found)) found changing 0 8 part.zones told tells (omega arith) (omega arith) (omega arith)
-        (λ k from to is. confirms.again k is (ap (λ m. has_bit m k) none ∙ has_bit-zero k)) (takes_none decide) (puts_none decide lane) refl
+    by : (k : ℕ) (b : Bool) → finding_at (if not b then plainly found.other_zones found.group else found.group) k
+        ≡ telling_of (if b then zones else found.other_zones) (answer_at answers k)
+    by k true = own k
+    by k false = others found.other_zones k
 
 -- ---- each of the four eights of a block
 
@@ -135,11 +168,19 @@ all_four P p q r s (suc (suc (suc (suc number)))) less = absurd (omega (arith, l
 
 -- where nothing is told of zones what is found is plain
 plain_at : (answers : AnswerGroup) (missing k : ℕ) → has_bit missing k ≡ is_silent (answer_at answers k).heard
-    → finding_at (record { stamp = answers.stamp; point = answers.point; missing = missing; telling = 0; counted = 0; confirmed = 0; manual = 0; released = 0 }) k
-    ≡ plain_of (answer_at answers k)
+    → eight_finding_at (eight_of_group (record {
+      stamp = answers.stamp;
+      point = answers.point;
+      missing = missing;
+      telling = 0;
+      counted = 0;
+      confirmed = 0;
+      manual = 0;
+      released = 0;
+    })) k ≡ plain_of (answer_at answers k)
 plain_at answers missing k silent =
     let none : mask_if (has_bit 0 k) 0 ≡ 0 = ap (λ b. mask_if b 0) (has_bit-zero k) in
-    same_finding (answer_at answers k) _ 0 _ 0 _ 0 _ 0 _ _ none none none none silent
+    finding_of_group _ k (has_bit-zero k) ∙ same_finding (answer_at answers k) _ 0 _ 0 _ 0 _ 0 _ _ none none none none silent
 
 pub plain_found : (answers : AnswerBlock) (missing : List ℕ) → AreSilentIn answers missing → IsPlainBlock answers (record {
   stamp = answers.stamp;
@@ -147,6 +188,8 @@ pub plain_found : (answers : AnswerBlock) (missing : List ℕ) → AreSilentIn a
   missing = missing;
   telling = 0 ∷ 0 ∷ 0 ∷ 0 ∷ [];
   told = none_told ∷ none_told ∷ none_told ∷ none_told ∷ [];
+  others = 0 ∷ 0 ∷ 0 ∷ 0 ∷ [];
+  other_zones = 0 ∷ 0 ∷ 0 ∷ 0 ∷ [];
 })
 plain_found answers missing silents zero less k = plain_at (eight_of answers 0) (slice_index missing 0) k (silents 0 k less)
 plain_found answers missing silents (suc zero) less k = plain_at (eight_of answers 1) (slice_index missing 1) k (silents 1 k less)
@@ -191,9 +234,9 @@ both_full a b fits also is =
 pub and_fits : (a b : ℕ) → a < 256 → bit_and a b < 256
 and_fits a b fits = let left = and_le_l a b in omega (arith, left, fits)
 
--- groups of one tick
-pub same_stamps : (a b c : FindingGroup) (stamp : Tick) → a.stamp ≡ stamp → b.stamp ≡ stamp → c.stamp ≡ stamp → (k : ℕ) (d : FindingGroup) → k < 3
-    → (slice_index_or (a ∷ b ∷ c ∷ []) k d).stamp ≡ stamp
+-- eights of one tick
+pub same_stamps : (a b c : FindingEight) (stamp : Tick) → a.group.stamp ≡ stamp → b.group.stamp ≡ stamp → c.group.stamp ≡ stamp → (k : ℕ)
+    (d : FindingEight) → k < 3 → (slice_index_or (a ∷ b ∷ c ∷ []) k d).group.stamp ≡ stamp
 same_stamps a b c stamp p q r zero d less = p
 same_stamps a b c stamp p q r (suc zero) d less = q
 same_stamps a b c stamp p q r (suc (suc zero)) d less = r

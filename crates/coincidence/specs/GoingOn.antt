@@ -1,6 +1,7 @@
 -- Alarms that go on in a plain zone: each of them counts, and changes nothing of what is kept of its point.
 use Rattle.std.specs.Prelude.{◌≡◌, [], ◌∷◌, ◌+◌, ◌<◌, ◌≤◌, ℕ, List, Some, false, slice_get}
-use Rattle.std.specs.Prelude.{slice_index_or, true}
+use Rattle.std.specs.Prelude.{◌^◌, ◌==◌, if◌then◌else◌, length, slice_index_or, true}
+use Rattle.site_types.specs.Changes.{IsNumber}
 use Rattle.site_types.specs.declared.heard.Heard.TheVariants.{Alarm}
 use Rattle.site_types.specs.declared.retained.Retained.{Retained}
 use Rattle.site_types.specs.declared.site.Site.{Site}
@@ -85,6 +86,18 @@ telling_of zones answer = record {
 pub record ConfirmsAgain (decide : Decide) (answer : Answer) (zones : ℕ) : Type 0 where
   pub taken : TakesAnswers decide (answer ∷ []) decide
   pub found : FindsNext decide answer (telling_of zones answer)
+
+-- there is a zone at a place, with the number of one
+pub record HasZoneAt (decide : Decide) (place : ℕ) : Type 0 where
+  pub small : place < length decide.zones.items
+  pub number : (zone : ZoneWatch) → zone ≡ slice_index_or decide.zones.items place zone → IsNumber zone.number
+
+-- a mask is that of the zone at a place
+pub record IsMaskOf (decide : Decide) (place mask : ℕ) : Type 0 where
+  pub zone : ZoneWatch
+  pub read : zone ≡ slice_index_or decide.zones.items place zone
+  pub fits : mask < 2 ^ 32
+  pub bits : (k : ℕ) → k < 32 → has_bit mask k ≡ (if (k + 1) == zone.number then true else false)
 
 -- of the answers of a run of which the bits of a byte tell there are some before the last ones; these leave all that is
 -- kept as it is, and where they are alarms confirm and release the zones of a part

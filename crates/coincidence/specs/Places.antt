@@ -1,6 +1,6 @@
--- The points that a set of places has, and the zone of the eight points from a place on.
-use Rattle.std.specs.Prelude.{◌≡◌, ◌↔◌, ◌+◌, ◌*◌, ◌<◌, ◌≤◌, ◌||◌, ℕ, Bool, List, None, Option, Some, false, length}
-use Rattle.std.specs.Prelude.{max, slice_get, slice_index_or, true}
+-- The points that a set of places has, and the zones of the eight points from a place on.
+use Rattle.std.specs.Prelude.{◌≡◌, ◌+◌, ◌*◌, ◌<◌, ◌≤◌, ◌||◌, ℕ, Bool, List, None, Option, Some, false, length}
+use Rattle.std.specs.Prelude.{if◌then◌else◌, max, nat_lt, slice_get, slice_index_or, true}
 use Rattle.tick_units.specs.declared.last_done.LastDone.{LastDone}
 use Rattle.tick_units.specs.declared.tick.Tick.{Tick}
 use Rattle.tick_units.specs.LastTicks.{last_at}
@@ -10,6 +10,7 @@ use Rattle.site_types.specs.Bits.{has_bit}
 use Rattle.answer_lanes.specs.Places.{has_place}
 use Rattle.answer_lanes.specs.declared.place_set.PlaceSet.{PlaceSet}
 use Rattle.coincidence.specs.declared.point_watch.PointWatch.{PointWatch}
+use Rattle.coincidence.specs.declared.zone_split.ZoneSplit.{ZoneSplit}
 use Rattle.coincidence.specs.declared.zone_watch.ZoneWatch.{ZoneWatch}
 use Rattle.coincidence.specs.Parts.{StaysNoted, switch_at}
 
@@ -29,17 +30,33 @@ pub record IsPointInZone (watches : List PointWatch) (zone place : ℕ) : Type 0
   pub is : slice_get watches place ≡ Some watch
   pub own : watch.zone ≡ zone
 
--- each of the eight points from a place on is of a zone
-abbrev pub AreEightInZone : List PointWatch → ℕ → ℕ → Type 0
-AreEightInZone watches first zone = (k : ℕ) → k < 8 → IsPointInZone watches zone (first + k)
+-- the place of the zone in which the point so many places behind the first one stands, of eight that are split so
+abbrev pub zone_in : ZoneSplit → ℕ → ℕ
+zone_in split k = if nat_lt k split.front then split.first else split.second
 
--- a zone is told of the eight points from a place on where each of them is of it, and no zone where they are not of one
-abbrev pub TellsZoneOfEight : List PointWatch → ℕ → Option ℕ → Type 0
-TellsZoneOfEight watches first told = (zone : ℕ) → (told ≡ Some zone) ↔ AreEightInZone watches first zone
+-- the eight points from a place on are split so
+pub record AreSplit (watches : List PointWatch) (first : ℕ) (split : ZoneSplit) : Type 0 where
+  pub some : 1 ≤ split.front
+  pub most : split.front ≤ 8
+  pub alone : split.front ≡ 8 → split.second ≡ split.first
+  pub each : (k : ℕ) → k < 8 → IsPointInZone watches (zone_in split k) (first + k)
+
+-- of the eight points from a place on it is told how they are split, and nothing where no split fits them
+abbrev pub TellsSplit : List PointWatch → ℕ → Option ZoneSplit → Type 0
+TellsSplit watches first None = (split : ZoneSplit) → AreSplit watches first split → ⊥
+TellsSplit watches first (Some split) = AreSplit watches first split
 
 -- what stands at each place of a list is told so of the eight points from that place on
-abbrev pub TellZonesOfEights : List PointWatch → List (Option ℕ) → Type 0
-TellZonesOfEights watches of_eights = (first : ℕ) → TellsZoneOfEight watches first (slice_index_or of_eights first None)
+abbrev pub TellSplits : List PointWatch → List (Option ZoneSplit) → Type 0
+TellSplits watches of_eights = (first : ℕ) → TellsSplit watches first (slice_index_or of_eights first None)
+
+-- the points from a place on are of one zone up to an end, which is the first one of another zone, or where they end
+pub record IsZonesEnd (watches : List PointWatch) (from to end : ℕ) : Type 0 where
+  pub some : from < end
+  pub most : end ≤ to
+  pub zone : ℕ
+  pub same : (place : ℕ) → from ≤ place → place < end → IsPointInZone watches zone place
+  pub apart : end < to → IsPointInZone watches zone end → ⊥
 
 -- from a tick on each alarm of a detector in a plain zone counts, and leaves what is kept of the detector as it is
 pub record GoesOnFrom (since : ℕ) (reset : LastDone) (point : PointWatch) (zone : ZoneWatch) : Type 0 where

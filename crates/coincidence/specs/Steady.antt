@@ -5,17 +5,17 @@ use Rattle.site_types.specs.declared.answer.Answer.{Answer}
 use Rattle.answer_lanes.specs.declared.answer_block.AnswerBlock.{AnswerBlock}
 use Rattle.answer_lanes.specs.declared.answer_group.AnswerGroup.{AnswerGroup}
 use Rattle.answer_lanes.specs.declared.finding_block.FindingBlock.{FindingBlock}
-use Rattle.answer_lanes.specs.declared.finding_group.FindingGroup.{FindingGroup}
+use Rattle.answer_lanes.specs.declared.finding_eight.FindingEight.{FindingEight}
 use Rattle.answer_lanes.specs.declared.run.Run.{Run}
-use Rattle.answer_lanes.specs.Blocks.{block_answer_at, block_finding_at, eight_found, eight_of}
-use Rattle.answer_lanes.specs.Points.{answer_at, finding_at}
+use Rattle.answer_lanes.specs.Blocks.{block_answer_at, block_finding_at, eight_finding_at, eight_found, eight_of}
+use Rattle.answer_lanes.specs.Points.{answer_at}
 use Rattle.answer_lanes.specs.Runs.{items_of}
 use Rattle.site_types.specs.Bits.{has_bit}
 use Rattle.coincidence_rules.specs.Counted.{is_silent}
 use Rattle.coincidence_rules.specs.declared.finding.Finding.{Finding}
 use Rattle.coincidence.specs.declared.decide.Decide.{Decide}
 use Rattle.coincidence.specs.Changes.{PutsFindings, TakesAnswers}
-use Rattle.coincidence.specs.Resting.{IsPlainAt, TellsChanging}
+use Rattle.coincidence.specs.Resting.{TellsChanging, plain_of}
 
 -- all that an eight holds
 abbrev pub all_of_eight : {S : Type 0} → S → Run S
@@ -40,10 +40,13 @@ AreSilentIn block bytes =
     (number k : ℕ) → number < 4
     → has_bit (slice_index bytes number) k ≡ is_silent ((answer_at (eight_of block number) k).heard)
 
+-- what is found of all answers of an eight is plain
+abbrev pub IsPlainEight : AnswerGroup → FindingEight → Type 0
+IsPlainEight answers found = (k : ℕ) → eight_finding_at found k ≡ plain_of (answer_at answers k)
+
 -- what is found of all answers of a block is plain
 abbrev pub IsPlainBlock : AnswerBlock → FindingBlock → Type 0
-IsPlainBlock block found =
-    (number : ℕ) → number < 4 → (k : ℕ) → IsPlainAt k (eight_of block number) (eight_found found number)
+IsPlainBlock block found = (number : ℕ) → number < 4 → IsPlainEight (eight_of block number) (eight_found found number)
 
 -- all answers of a block are quiet
 pub record IsQuietBlock (block : AnswerBlock) : Type 0 where
@@ -55,10 +58,11 @@ pub record AreSteady (decide : Decide) (answers : List Answer) (found : List Fin
   pub taken : TakesAnswers decide answers decide
   pub put : (lane : LaneState Finding) → PutsFindings decide answers lane (with_put lane found)
 
--- the answers of an eight are so, and a group of the tick in which they were asked has their findings
-pub record IsSteadyEight (decide : Decide) (answers : AnswerGroup) (found : FindingGroup) : Type 0 where
-  pub stamp : found.stamp ≡ answers.stamp
-  pub steady : AreSteady decide (items_of answer_at (all_of_eight answers)) (items_of finding_at (all_of_eight found))
+-- the answers of an eight are so, and another eight of the tick in which they were asked has their findings
+pub record IsSteadyEight (decide : Decide) (answers : AnswerGroup) (found : FindingEight) : Type 0 where
+  pub stamp : found.group.stamp ≡ answers.stamp
+  pub steady : AreSteady decide (items_of answer_at (all_of_eight answers))
+      (items_of eight_finding_at (all_of_eight found))
 
 -- the answers of a block leave all that is kept as it is, and another block has their findings
 abbrev pub IsSteadyBlock : Decide → AnswerBlock → FindingBlock → Type 0

@@ -5,13 +5,14 @@ ghost use Rattle.answer_lanes.specs.Blocks.{block_answer_at, eight_of};
 ghost use Rattle.answer_lanes.specs.Points.{answer_at};
 ghost use Rattle.answer_lanes.specs.Runs.{front_of, items_of};
 
-use crate::bits::one_bit;
+use crate::bits::{bits_past, one_bit};
 use crate::decide::Decide;
 use crate::rules::{plain_block, plain_group, quiet_block, telling_group};
-use answer_lanes::{AnswerBlock, AnswerGroup, FindingBlock, FindingGroup, Lane, Run};
+use answer_lanes::{AnswerBlock, AnswerGroup, FindingBlock, FindingEight, Lane, Run};
 
 impl Decide {
     ghost use Rattle.coincidence.specs.Changes.{CanTakeAnswerRun, CanTakeRunOf, TakesAnswerRun, TakesRunOf};
+    ghost use Rattle.coincidence.specs.GoingOn.{HasZoneAt, IsMaskOf};
     ghost use Rattle.coincidence.specs.Resting.{TellsChanging};
     ghost use Rattle.coincidence.specs.Stands.{CanTake};
     ghost use Rattle.coincidence.specs.Steady.{HasNumberedPoints, IsQuietBlock, IsSteadyBlock, IsSteadyEight};
@@ -137,7 +138,7 @@ impl Decide {
     }
 
     // The findings of a block where those answers that may change what is kept of their points, by these bits, are all
-    // alarms that go on, and the points of each eight that has one are of one zone.
+    // alarms that go on, and the points of each eight that has one are of one zone or split between two.
     #[inline(always)]
     fn block_going_on(&self, block: &AnswerBlock, changing: [u8; 4]) -> Option<FindingBlock>
         requires numbers { HasNumberedPoints block.now }
@@ -153,16 +154,16 @@ impl Decide {
     }
 
     // The findings of an eight where those answers that may change what is kept of their points, by these bits, are all
-    // alarms that go on. Where there is one, all eight points have to be of one zone.
+    // alarms that go on. Where there is one, all eight points have to be of one zone or split between two.
     #[inline(always)]
-    fn eight_going_on(&self, answers: &AnswerGroup, changing: u8) -> Option<FindingGroup>
+    fn eight_going_on(&self, answers: &AnswerGroup, changing: u8) -> Option<FindingEight>
         requires point { answers.now.point ≤ 65527 }
         requires tells { TellsChanging self.now (all_of_eight answers.now) changing }
         requires can { CanTake self.now (items_of answer_at (all_of_eight answers.now)) }
         ensures { IfSome result (λ found. IsSteadyEight self.now answers.now found) }
     {
         if changing == 0 {
-            return Some(plain_group(answers));
+            return Some(FindingEight::from(plain_group(answers)));
         }
         let run = Run {
             first: *answers,
@@ -172,9 +173,21 @@ impl Decide {
         if !self.all_go_on(&run, changing) {
             return None;
         }
-        let place = self.points.zone_of_eight(answers.point as usize)?;
-        let zone = &self.zones[place as usize];
-        Some(telling_group(answers, one_bit(zone.number, true)))
+        let split = self.points.split_of_eight(answers.point as usize)?;
+        Some(FindingEight {
+            group: telling_group(answers, self.mask_of(split.first)),
+            others: bits_past(split.front),
+            other_zones: self.mask_of(split.second),
+        })
+    }
+
+    // The mask of the zone at a place.
+    #[inline(always)]
+    fn mask_of(&self, place: u16) -> u32
+        requires { HasZoneAt self.now place }
+        ensures { IsMaskOf self.now place result }
+    {
+        one_bit(self.zones[place as usize].number, true)
     }
 
     // Takes the answers of a run of a block, one eight behind the other, and puts one finding for each.

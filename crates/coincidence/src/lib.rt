@@ -24,11 +24,12 @@
 //! alarm that counts and changes nothing, once all operations on it, its zone and the panel lie before that
 //! alarm's tick; any other answer of it that changes something unmarks it, and an operation unmarks all points.
 //! A whole block of four eights is passed over in one step where all its answers are of the first two kinds, or
-//! where all others are alarms that go on, and the points of each eight that has one are of one zone, which is
-//! known from the start. Any other block, and what is left of one, is taken eight by eight. A run within a group of
-//! eight is passed over in one step where all its answers are of the first two kinds, and in one step for each zone
-//! where all others are alarms that go on. Of any other run each answer that is of neither of the first two kinds
-//! is taken by itself, which costs the same, whatever the site. A turn takes no memory; only [`Decide::new`] does.
+//! where all others are alarms that go on, and the points of each eight that has one are of one zone, or its first
+//! ones of one and the others of another, which is known from the start. Any other block, and what is left of one,
+//! is taken eight by eight. A run within a group of eight is passed over in one step where all its answers are of
+//! the first two kinds, and in one step for each zone where all others are alarms that go on. Of any other run each
+//! answer that is of neither of the first two kinds is taken by itself, which costs the same, whatever the site. A
+//! turn takes no memory; only [`Decide::new`] does.
 #![tactic(auto)]
 
 mod alarms;
@@ -51,6 +52,7 @@ mod runs;
 mod watches;
 mod zone_eights;
 mod zone_part;
+mod zone_split;
 mod zone_watch;
 
 pub use coincidence_rules::Finding;

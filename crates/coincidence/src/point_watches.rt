@@ -4,7 +4,8 @@ ghost use Rattle.site_types.specs.Changes.{IsPanelNumber};
 
 use crate::point_watch::PointWatch;
 use crate::watches::watch_points;
-use crate::zone_eights::zones_of_eights;
+use crate::zone_eights::splits_of_eights;
+use crate::zone_split::ZoneSplit;
 use answer_lanes::PlaceSet;
 use site_types::{Heard, Point, Retained};
 use std::alloc::Global;
@@ -20,15 +21,15 @@ pub struct PointWatches {
     resting: PlaceSet,
     /// Those that a silent answer leaves as they are.
     missing: PlaceSet,
-    /// By place, the zone of the eight points from it on, if all are of one.
-    of_eights: Vec<Option<u16>>,
+    /// By place, how the eight points from it on stand in zones, if in no more than two that follow one another.
+    of_eights: Vec<Option<ZoneSplit>>,
 }
 
 impl Model for PointWatches {
     ghost use Rattle.std.specs.Prelude.{List};
     ghost use Rattle.coincidence.specs.declared.point_watch.PointWatch.{PointWatch as Watch};
     ghost use Rattle.coincidence.specs.Parts.{is_at_rest, stays_missing};
-    ghost use Rattle.coincidence.specs.Places.{HasPointsWhere, TellZonesOfEights};
+    ghost use Rattle.coincidence.specs.Places.{HasPointsWhere, TellSplits};
 
     ghost Value = { List Watch };
 
@@ -36,7 +37,7 @@ impl Model for PointWatches {
 
     ghost invariant = { λ p. HasPointsWhere is_at_rest p.watches.items p.resting
         × HasPointsWhere stays_missing p.watches.items p.missing
-        × TellZonesOfEights p.watches.items p.of_eights.items };
+        × TellSplits p.watches.items p.of_eights.items };
 }
 
 impl PointWatches {
@@ -44,7 +45,7 @@ impl PointWatches {
     ghost use Rattle.site_types.specs.declared.point.Point.{Point as PointPlan};
     ghost use Rattle.coincidence.specs.Changes.{IsSwitchedBefore, NotesPoint, SwitchesPoint};
     ghost use Rattle.coincidence.specs.Parts.{point_from, is_at_rest, leaves_watch, stays_missing};
-    ghost use Rattle.coincidence.specs.Places.{TellsEight, TellsZoneOfEight};
+    ghost use Rattle.coincidence.specs.Places.{TellsEight, TellsSplit};
 
     /// What is kept of some points at the start.
     pub fn new(alloc: Global, points: &[Point], kept: &Retained) -> Result<PointWatches, NoMemory>
@@ -55,7 +56,7 @@ impl PointWatches {
         let watches = watch_points(alloc, points, kept)?;
         let resting = PlaceSet::first(alloc, watches.len(), true)?;
         let missing = PlaceSet::first(alloc, watches.len(), false)?;
-        let of_eights = zones_of_eights(alloc, watches.as_slice())?;
+        let of_eights = splits_of_eights(alloc, watches.as_slice())?;
         Ok(PointWatches {
             watches,
             resting,
@@ -133,12 +134,12 @@ impl PointWatches {
         self.missing.eight_from(first)
     }
 
-    /// The zone of the eight points from a place on, if all are of one.
-    pub fn zone_of_eight(&self, first: usize) -> Option<u16>
-        ensures { TellsZoneOfEight self.now first result }
+    /// How the eight points from a place on stand in zones, if in no more than two that follow one another.
+    pub fn split_of_eight(&self, first: usize) -> Option<ZoneSplit>
+        ensures { TellsSplit self.now first result }
     {
         match self.of_eights.get(first) {
-            Some(zone) => *zone,
+            Some(split) => *split,
             None => None,
         }
     }

@@ -131,15 +131,21 @@ fn plain_with(answers: &AnswerBlock, missing: [u8; 4]) -> FindingBlock
         missing,
         telling: [0, 0, 0, 0],
         told: [none, none, none, none],
+        others: [0, 0, 0, 0],
+        other_zones: [0, 0, 0, 0],
     }
 }
 
+ghost use Rattle.answer_lanes.specs.Blocks.{plainly};
 ghost use Rattle.coincidence.specs.GoingOn.{telling_of};
 
 /// What the answers of a group mean where its alarms are those of detectors in zones that each of them confirms and
-/// releases, and the other answers tell of no zone.
+/// releases, and the other answers tell of no zone. The same holds of other zones, where the group tells plainly of
+/// those instead.
 pub fn telling_group(answers: &AnswerGroup, zones: u32) -> FindingGroup
-    ensures { (k : ℕ) → finding_at result k ≡ telling_of zones (answer_at answers.now k) }
+    ensures own { (k : ℕ) → finding_at result k ≡ telling_of zones (answer_at answers.now k) }
+    ensures others { (other k : ℕ)
+        → finding_at (plainly other result) k ≡ telling_of other (answer_at answers.now k) }
 {
     FindingGroup {
         stamp: answers.stamp,

@@ -31,6 +31,11 @@ eight_going_on-requires-2-clause-can c =
 pub eight_going_on-requires-3-clause-point : goal.eight_going_on-requires-3-clause-point
 eight_going_on-requires-3-clause-point c = subst (λ eight. eight.point ≤ 65527) (sym c.eight-3.ensures) (c.requires.numbers 2 (omega arith))
 
+pub eight_going_on-requires-3-clause-tells : goal.eight_going_on-requires-3-clause-tells
+eight_going_on-requires-3-clause-tells c =
+    subst (λ eight. TellsChanging c.args.self.now (all_of_eight eight) (slice_index c.args.changing 2)) (sym c.eight-3.ensures)
+    (c.requires.tells 2 (omega arith))
+
 pub eight_going_on-requires-3-clause-can : goal.eight_going_on-requires-3-clause-can
 eight_going_on-requires-3-clause-can c =
     let at = goal.at.eight_going_on-requires-3-clause-can c in
@@ -58,7 +63,7 @@ of-requires c =
     let at = goal.at.of-requires c in
     let same = sym (first at.After-eight-2).stamp in
     let fourth = subst (λ eight. IsSteadyEight c.args.self.now eight c.in_ok-fourth.fourth) c.eight-4.ensures c.in_ok-fourth.ensures in
-    same_stamps c.in_ok-second.second c.in_ok-third.third c.in_ok-fourth.fourth c.in_ok-first.first.stamp ((second at.After-eight-3).stamp ∙ same)
+    same_stamps c.in_ok-second.second c.in_ok-third.third c.in_ok-fourth.fourth c.in_ok-first.first.group.stamp ((second at.After-eight-3).stamp ∙ same)
     ((third at.After-eight-4).stamp ∙ same) (fourth.stamp ∙ same)
 
 pub returns : goal.returns
