@@ -11,3 +11,4 @@ pub mod Moving
 pub mod Passing
 pub mod WholeRuns
 pub mod AllRuns
+pub mod Words

@@ -11,7 +11,7 @@ use Rattle.answer_lanes.specs.declared.place_set.PlaceSet.{PlaceSet}
 use Rattle.answer_lanes.specs.Places.{HasFirst}
 
 -- the low byte of a number has the number's first bits
-low_byte : (n k : ℕ) → k < 8 → bit_at (n % 256) k ≡ bit_at n k
+pub low_byte : (n k : ℕ) → k < 8 → bit_at (n % 256) k ≡ bit_at n k
 low_byte n k small =
     let parts : n / 256 * 2 ^ 8 + n % 256 ≡ n = omega arith in
     sym (bit_at_cat_low (n / 256) 8 (n % 256) k small) ∙ ap (λ m. bit_at m k) parts

@@ -5,3 +5,4 @@ pub mod Queues
 pub mod Moves
 pub mod Groups
 pub mod Places
+pub mod Words

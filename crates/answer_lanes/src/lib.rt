@@ -12,6 +12,7 @@
 
 mod answer_block;
 mod answer_group;
+mod eight_words;
 mod expanding;
 mod finding_block;
 mod finding_eight;
@@ -28,6 +29,7 @@ mod whole;
 
 pub use answer_block::AnswerBlock;
 pub use answer_group::AnswerGroup;
+pub use eight_words::{joined, parted};
 pub use expanding::take_items;
 pub use finding_block::FindingBlock;
 pub use finding_eight::FindingEight;

@@ -1,6 +1,7 @@
 ghost use Rattle.std.specs.Prelude.{◌≡◌, ◌<◌, ◌*◌, IfOk, length};
 ghost use Rattle.std.specs.Prelude.{◌%◌, ◌+◌, ◌/◌, ◌^◌, slice_index};
 
+use crate::eight_words::joined;
 use site_types::with_bit_8;
 use std::alloc::Global;
 use tick_units::NoMemory;
@@ -12,6 +13,7 @@ pub struct PlaceSet {
 }
 
 impl PlaceSet {
+    ghost use Rattle.answer_lanes.specs.Words.{AreEights};
     ghost use Rattle.answer_lanes.specs.Places.{AreEight, HasEightFrom, HasFirst, IsCleared, SetsPlace};
 
     /// A set that has all of the first places, so many, or none of them.
@@ -61,6 +63,20 @@ impl PlaceSet {
             return eight_of(low, high, first);
         }
         eight_of(self.byte(byte), 0, first)
+    }
+
+    /// Which of the eight places from each of four on it has, in one word, those of the first one lowest.
+    #[inline(always)]
+    pub fn eights_from(&self, firsts: &[u16; 4]) -> u32
+        ensures { AreEights self.now firsts.now result }
+    {
+        let [first, second, third, fourth] = firsts;
+        joined(&[
+            self.eight_from(*first as usize),
+            self.eight_from(*second as usize),
+            self.eight_from(*third as usize),
+            self.eight_from(*fourth as usize),
+        ])
     }
 
     fn byte(&self, number: usize) -> u8

@@ -1,4 +1,4 @@
-/// What findings tell of zones, each a mask with bit `number - 1` of a zone, as a [`coincidence_rules::Finding`] has it.
+/// What findings tell of zones: masks with bit `number - 1` of a zone, as a [`coincidence_rules::Finding`] has them.
 #[derive(Clone, Copy, Debug, Default)]
 pub struct Told {
     pub counted: u32,
