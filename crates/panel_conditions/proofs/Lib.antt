@@ -21,6 +21,7 @@ pub mod Alike
 -- findings that stand in runs
 pub mod Runs
 pub mod ZoneRuns
+pub mod EightParts
 pub mod BlockRuns
 pub mod PlainBlocks
 -- the whole part: at first, and after a turn or an operation

@@ -1,26 +1,31 @@
 -- A block whose eights tell of zones plainly tells what one finding does.
 use Rattle.std.proofs.Common.{◌≡◌, ◌∙◌, ◌+◌, ◌++◌, ◌∷◌, ◌<◌, ◌^◌, ◌==◌, ◌&&◌, ◌||◌, inl, inr, [], Bool, List, false, not, true}
 use Rattle.std.proofs.Common.{max, ℕ, bit_or, if◌then◌else◌, refl, sym, ap, arith, slice_index, slice_index_or, subst}
+use Rattle.std.specs.Int.Bits.{bit_xor}
+use Rattle.std.proofs.lemmas.Nat.{and_le_l, le_or_l, le_or_r}
 use Rattle.std.proofs.lemmas.Bool.Decides.{eqb_tells}
 use Rattle.tick_units.specs.declared.tick.Tick.{Tick}
 use Rattle.site_types.specs.Bits.{has_bit}
 use Rattle.site_types.proofs.Masks.{has_bit-or, has_bit-zero}
 use Rattle.coincidence_rules.specs.declared.finding.Finding.{Finding}
 use Rattle.answer_lanes.specs.declared.finding_block.FindingBlock.{FindingBlock}
+use Rattle.answer_lanes.specs.declared.finding_eight.FindingEight.{FindingEight}
 use Rattle.answer_lanes.specs.declared.finding_group.FindingGroup.{FindingGroup}
 use Rattle.answer_lanes.specs.declared.told.Told.{Told}
-use Rattle.answer_lanes.specs.Blocks.{block_finding_at, eight_found, none_told}
+use Rattle.answer_lanes.specs.Blocks.{block_finding_at, eight_finding_at, eight_found, group_tells, none_told}
 use Rattle.answer_lanes.specs.Points.{finding_at}
 use Rattle.answer_lanes.specs.Runs.{items_of}
-use Rattle.panel_conditions.specs.Changes.{TellSame}
+use Rattle.panel_conditions.specs.declared.zones.Zones.{Zones}
+use Rattle.panel_conditions.specs.Changes.{TakesZones, TellSame}
 use Rattle.panel_conditions.specs.Parts.{ArePlain, IsPlainEight, block_confirms, eight_confirms, finding_of, plain_told}
 use Rattle.panel_conditions.specs.Stands.{latest_stamp}
-use Rattle.panel_conditions.specs.Told.{block_run, eight_run}
-use Rattle.panel_conditions.proofs.BlockRuns.{block_items}
+use Rattle.panel_conditions.specs.Told.{block_run, eight_run, group_run, others_of, others_telling, own_of, own_telling}
+use Rattle.panel_conditions.proofs.BlockRuns.{block_items, zones_by_eights, zones_then}
+use Rattle.panel_conditions.proofs.EightParts.{eight_parts, others_short, own_short}
 use Rattle.panel_conditions.proofs.Latest.{latest-append}
 use Rattle.panel_conditions.proofs.Plain.{told_plainly}
 use Rattle.panel_conditions.proofs.Runs.{run_tells, same_as_none, same_then}
-use Rattle.panel_conditions.proofs.ZoneRuns.{eight_tells}
+use Rattle.panel_conditions.proofs.ZoneRuns.{group_tells_some, run_of_nothing, zones_same}
 
 -- of no zone is the same told as by no finding
 none_same : (stamp : Tick) → TellSame (finding_of stamp (plain_told 0) ∷ []) []
@@ -34,36 +39,30 @@ none_same stamp = record {
     off : (b : Bool) → b ≡ false → max (if b then stamp.0 else 0) 0 ≡ 0
     off b e = ap (λ c. max (if c then stamp.0 else 0) 0) e
 
--- of an eight the zones that it confirms are told, and plainly
-eight_same : (block : FindingBlock) (number : ℕ) → IsPlainEight block number → slice_index block.telling number < 2 ^ 8
-    → TellSame (finding_of block.stamp (plain_told (eight_confirms block number)) ∷ []) (items_of finding_at (eight_run block number))
-eight_same block number plain small = elim (eqb_tells (slice_index block.telling number) 0) [
+-- of a group that tells plainly of zones these are told, where any of its findings tells of them
+group_same : (group : FindingGroup) (zones : ℕ) → (0 < group.telling → group_tells group ≡ plain_told zones) → group.telling < 2 ^ 8
+    → TellSame (finding_of group.stamp (plain_told (if group.telling == 0 then 0 else zones)) ∷ []) (items_of finding_at (group_run group))
+group_same group zones plain small = elim (eqb_tells group.telling 0) [
   | inl none ↦
       subst (λ z. TellSame (by z) items) (sym (confirms none.0))
-      (same_then (by 0) [] items (none_same block.stamp)
-      (same_as_none first 0 8 (λ k less. ap (λ m. has_bit m (0 + k)) none.1 ∙ has_bit-zero (0 + k))))
+      (same_then (by 0) [] items (none_same group.stamp)
+      (same_as_none group 0 8 (λ k less. ap (λ m. has_bit m (0 + k)) none.1 ∙ has_bit-zero (0 + k))))
   | inr some ↦
       (let apart = some.1 in
-      let positive : 0 < slice_index block.telling number = omega (arith, apart) in
+      let positive : 0 < group.telling = omega (arith, apart) in
       subst (λ z. TellSame (by z) items) (sym (confirms some.0))
-      (subst (λ t. TellSame (finding_of block.stamp t ∷ []) items) (told_plainly told (plain positive))
-      (run_tells (eight_run block number) (eight_tells block number positive small))))
+      (subst (λ t. TellSame (finding_of group.stamp t ∷ []) items) (plain positive)
+      (run_tells (group_run group) (group_tells_some group positive small))))
 ]
   where
-    told : Told
-    told = slice_index_or block.told number none_told
-
-    first : FindingGroup
-    first = eight_found block number
-
     items : List Finding
-    items = items_of finding_at (eight_run block number)
+    items = items_of finding_at (group_run group)
 
     by : ℕ → List Finding
-    by zones = finding_of block.stamp (plain_told zones) ∷ []
+    by zones = finding_of group.stamp (plain_told zones) ∷ []
 
-    confirms : {b : Bool} → (slice_index block.telling number == 0) ≡ b → eight_confirms block number ≡ (if b then 0 else told.confirmed)
-    confirms e = ap (λ b. if b then 0 else told.confirmed) e
+    confirms : {b : Bool} → (group.telling == 0) ≡ b → (if group.telling == 0 then 0 else zones) ≡ (if b then 0 else zones)
+    confirms e = ap (λ b. if b then 0 else zones) e
 
 -- where findings tell plainly of some zones, and others at the same stamp of others, both tell of both
 both_same : (stamp : Tick) (a b : ℕ) (one other : List Finding) → TellSame (finding_of stamp (plain_told a) ∷ []) one
@@ -106,6 +105,22 @@ both_same stamp a b one other x y = record {
         ap (λ c. max (if c then stamp.0 else 0) 0) is ∙ either (test (of a)) (test (of b))
         ∙ ap (λ n. max n (latest_stamp test (of b ∷ []))) e ∙ ap (max (latest_stamp test one)) g ∙ sym (latest-append test one other)
 
+-- of an eight the zones that it confirms are told, and plainly
+eight_same : (block : FindingBlock) (number : ℕ) → IsPlainEight block number → slice_index block.telling number < 2 ^ 8
+    → TellSame (finding_of block.stamp (plain_told (eight_confirms block number)) ∷ []) (items_of eight_finding_at (eight_run block number))
+eight_same block number plain small =
+    same_then _ _ _
+    (both_same block.stamp _ _ _ _
+    (group_same (own_of eight) told.confirmed (λ some. told_plainly told (plain some)) (own_short eight small))
+    (group_same (others_of eight) eight.other_zones (λ some. refl) (others_short eight small)))
+    (eight_parts eight)
+  where
+    eight : FindingEight
+    eight = eight_found block number
+
+    told : Told
+    told = slice_index_or block.told number none_told
+
 -- a block tells of the zones that it confirms, and plainly
 pub block_same : (block : FindingBlock) → ArePlain block → slice_index block.telling 0 < 2 ^ 8 → slice_index block.telling 1 < 2 ^ 8
     → slice_index block.telling 2 < 2 ^ 8 → slice_index block.telling 3 < 2 ^ 8
@@ -115,3 +130,34 @@ block_same block plain a b c d =
     (both_same block.stamp _ _ _ _ (both_same block.stamp _ _ _ _
     (both_same block.stamp _ _ _ _ (eight_same block 0 plain.0 a) (eight_same block 1 plain.1 b)) (eight_same block 2 plain.2 c))
     (eight_same block 3 plain.3 d))
+
+-- a block of which none tells of a zone
+pub block_of_none : (block : FindingBlock) (zones : Zones) →
+    let tells = slice_index block.telling in
+    bit_or (bit_or (bit_or (tells 0) (tells 1)) (tells 2)) (tells 3) ≡ 0 → TakesZones (items_of block_finding_at (block_run block)) zones zones
+block_of_none block zones none =
+    let tells = slice_index block.telling in
+    let two = bit_or (tells 0) (tells 1) in
+    let three = bit_or two (tells 2) in
+    let among_three = le_or_l three (tells 3) in
+    let among_two = le_or_l two (tells 2) in
+    let first = le_or_l (tells 0) (tells 1) in
+    let second = le_or_r (tells 0) (tells 1) in
+    let third = le_or_r two (tells 2) in
+    let fourth = le_or_r three (tells 3) in
+    zones_by_eights block zones zones zones zones zones
+    (of_none 0 (omega (arith, none, among_three, among_two, first)))
+    (of_none 1 (omega (arith, none, among_three, among_two, second)))
+    (of_none 2 (omega (arith, none, among_three, third)))
+    (of_none 3 (omega (arith, none, fourth)))
+  where
+    of_none : (number : ℕ) → slice_index block.telling number ≡ 0
+        → TakesZones (items_of eight_finding_at (eight_run block number)) zones zones
+    of_none number none =
+        let eight = eight_found block number in
+        let among = and_le_l eight.group.telling eight.others in
+        let others : others_telling eight ≡ 0 = omega (arith, among, none) in
+        let own : own_telling eight ≡ 0 = ap (λ m. bit_xor m (others_telling eight)) none ∙ ap (bit_xor 0) others in
+        zones_same _ _ zones zones (eight_parts eight)
+        (zones_then _ _ zones zones zones (run_of_nothing (group_run (own_of eight)) zones own)
+        (run_of_nothing (group_run (others_of eight)) zones others))

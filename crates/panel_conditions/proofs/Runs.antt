@@ -13,7 +13,7 @@ use Rattle.site_types.proofs.Masks.{has_bit-zero}
 use Rattle.coincidence_rules.specs.declared.finding.Finding.{Finding}
 use Rattle.answer_lanes.specs.declared.finding_group.FindingGroup.{FindingGroup}
 use Rattle.answer_lanes.specs.declared.run.Run.{Run}
-use Rattle.answer_lanes.specs.Blocks.{told_of}
+use Rattle.answer_lanes.specs.Blocks.{group_tells}
 use Rattle.answer_lanes.specs.Points.{finding_at, mask_if}
 use Rattle.answer_lanes.specs.Runs.{all_items, items_of}
 use Rattle.answer_lanes.proofs.Moving.{items_more, range_parts}
@@ -117,11 +117,11 @@ zones_as site panel done taken one other watches same h =
     }
 
 -- a mask that is told where a group tells has its bits there
-bit_if : (tells : Bool) (mask k : ℕ) → has_bit (mask_if tells mask) k ≡ (tells && has_bit mask k)
+pub bit_if : (tells : Bool) (mask k : ℕ) → has_bit (mask_if tells mask) k ≡ (tells && has_bit mask k)
 bit_if true mask k = refl
 bit_if false mask k = has_bit-zero k
 
-bits_if : (tells : Bool) (counted manual k : ℕ)
+pub bits_if : (tells : Bool) (counted manual k : ℕ)
     → (has_bit (mask_if tells counted) k && not (has_bit (mask_if tells manual) k)) ≡ (tells && (has_bit counted k && not (has_bit manual k)))
 bits_if true counted manual k = refl
 bits_if false counted manual k = ap (λ b. b && not (has_bit 0 k)) (has_bit-zero k)
@@ -165,7 +165,7 @@ same_then one other third a b = record {
 
 -- a finding that tells of zones tells the same as one of no point in particular
 same_at : (group : FindingGroup) (place : ℕ) → has_bit group.telling place ≡ true
-    → TellSame (finding_of group.stamp (told_of group) ∷ []) (finding_at group place ∷ [])
+    → TellSame (finding_of group.stamp (group_tells group) ∷ []) (finding_at group place ∷ [])
 same_at group place tells = record {
   confirmed = λ k. ap (λ b. latest_stamp (λ f. has_bit f.confirmed k) (at b ∷ [])) (sym tells);
   called = λ k. ap (λ b. latest_stamp (λ f. has_bit f.manual k) (at b ∷ [])) (sym tells);
@@ -185,9 +185,9 @@ same_at group place tells = record {
     }
 
 -- a run of which some tell of zones tells what these do
-pub run_tells : (run : Run FindingGroup) → HasTelling run → TellSame (finding_of run.first.stamp (told_of run.first) ∷ []) (items_of finding_at run)
+pub run_tells : (run : Run FindingGroup) → HasTelling run → TellSame (finding_of run.first.stamp (group_tells run.first) ∷ []) (items_of finding_at run)
 run_tells run some =
-    same_then (finding_of run.first.stamp (told_of run.first) ∷ []) (finding_at run.first some.place ∷ []) (items_of finding_at run)
+    same_then (finding_of run.first.stamp (group_tells run.first) ∷ []) (finding_at run.first some.place ∷ []) (items_of finding_at run)
     (same_at run.first some.place some.tells)
     (same_as_one run.first run.taken run.count some.place some.from some.below some.tells)
 
@@ -208,24 +208,27 @@ taken_by_nothing site panel done taken run watches none h =
 
 -- ---- points of which nothing new is told
 
-module _ (site : Site) (kept : Retained) (panel : ℕ) (done : List Done) (points : Points) (group : FindingGroup) where
-  all_again : (from count : ℕ) (taken : List Finding)
+module _ {S : Type 0} (item_at : S → ℕ → Finding) (first : S) (points : Points) where
+  pub all_again : (site : Site) (kept : Retained) (panel : ℕ) (done : List Done) (from count : ℕ) (taken : List Finding)
       → ((place : ℕ) → from ≤ place → place < from + count
-      → slice_get points.told (finding_at group place).point ≡ Some (has_bit group.missing place))
+      → slice_get points.told (item_at first place).point ≡ Some (item_at first place).missing)
       → WatchesPoints site kept panel done taken points
-      → WatchesPoints site kept panel done (taken ++ map (finding_at group) (range_with_len from count)) points
-  all_again from zero taken told h = subst (λ l. WatchesPoints site kept panel done l points) (sym (append-nil taken)) h
-  all_again from (suc count) taken told h =
-      let item = finding_at group from in
+      → WatchesPoints site kept panel done (taken ++ map (item_at first) (range_with_len from count)) points
+  all_again site kept panel done from zero taken told h =
+      subst (λ l. WatchesPoints site kept panel done l points) (sym (append-nil taken)) h
+  all_again site kept panel done from (suc count) taken told h =
+      let item = item_at first from in
       subst (λ l. WatchesPoints site kept panel done l points)
-      (append_assoc taken (item ∷ []) (map (finding_at group) (range_with_len (from + 1) count)))
-      (all_again (from + 1) count (taken ++ item ∷ []) (λ place le less. told place (omega (arith, le)) (omega (arith, less)))
+      (append_assoc taken (item ∷ []) (map (item_at first) (range_with_len (from + 1) count)))
+      (all_again site kept panel done (from + 1) count (taken ++ item ∷ [])
+      (λ place le less. told place (omega (arith, le)) (omega (arith, less)))
       (points_again site kept panel done taken item points (told from (omega arith) (omega arith)) h))
 
 pub run_again : (site : Site) (kept : Retained) (panel : ℕ) (done : List Done) (taken : List Finding) (run : Run FindingGroup) (points : Points)
     → AreTold points.told run →
     WatchesPoints site kept panel done taken points → WatchesPoints site kept panel done (taken ++ items_of finding_at run) points
-run_again site kept panel done taken run points told h = all_again site kept panel done points run.first run.taken run.count taken told h
+run_again site kept panel done taken run points told h =
+    all_again finding_at run.first points site kept panel done run.taken run.count taken told h
 
 -- ---- what is taken
 
@@ -242,6 +245,15 @@ module _ {S : Type 0} (item_at : S → ℕ → Finding) where
       ap (λ n. map item (range_with_len from n)) count ∙ ap (map item) (range_parts from (place - from) more)
       ∙ map-append item (range_with_len from (place - from)) (range_with_len (from + (place - from)) more)
       ∙ ap (λ n. map item (range_with_len from (place - from)) ++ map item (range_with_len n more)) last
+
+  -- one more of the first items
+  pub first_more : (first : S) (place : ℕ) → map (item_at first) (range_with_len 0 (place + 1))
+      ≡ map (item_at first) (range_with_len 0 place) ++ item_at first place ∷ []
+  first_more first place =
+      let item = item_at first in
+      let start : 0 + place ≡ place = omega arith in
+      ap (map item) (range_parts 0 place 1) ∙ map-append item (range_with_len 0 place) (range_with_len (0 + place) 1)
+      ∙ ap (λ n. map item (range_with_len 0 place) ++ item n ∷ []) start
 
   -- one more item of a run, behind those taken before
   pub item_more : (P : List Finding → Type 0) (taken : List Finding) (run : Run S) (place : ℕ) (f : Finding) → run.taken ≤ place

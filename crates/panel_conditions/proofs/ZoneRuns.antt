@@ -1,9 +1,8 @@
 -- Zones take the findings of a run.
-use Rattle.std.proofs.Common.{◌≡◌, inl, inr, ℕ, ◌+◌, ◌/◌, ◌<◌, ◌≤◌, ◌^◌, arith, slice_index, true, false, ◌++◌, [], ◌∷◌, bit_or, refl, sym, ◌∙◌, ap, slice_get, subst}
+use Rattle.std.proofs.Common.{◌≡◌, inl, inr, ℕ, ◌+◌, ◌/◌, ◌<◌, ◌≤◌, ◌^◌, arith, List, true, false, ◌++◌, [], ◌∷◌, bit_or, refl, sym, ◌∙◌, ap, slice_get, subst}
 use Rattle.std.specs.Int.{w32, trailing_zeros}
 use Rattle.site_types.proofs.Done.{lt_tells}
 use Rattle.site_types.proofs.Masks.{has_bit-above}
-use Rattle.answer_lanes.specs.declared.finding_block.FindingBlock.{FindingBlock}
 use Rattle.answer_lanes.specs.declared.finding_group.FindingGroup.{FindingGroup}
 use Rattle.answer_lanes.specs.declared.run.Run.{Run}
 use Rattle.answer_lanes.specs.Points.{finding_at}
@@ -13,8 +12,8 @@ use Rattle.site_types.specs.Bits.{has_bit}
 use Rattle.panel_conditions.specs.declared.zones.Zones.{Zones}
 use Rattle.panel_conditions.specs.Parts.{HasTelling, IsShown, Marks, told_by}
 use Rattle.panel_conditions.specs.Stands.{WatchesZones, ZonesTake}
-use Rattle.panel_conditions.specs.Changes.{TakesTold, TakesZones}
-use Rattle.panel_conditions.specs.Told.{eight_run}
+use Rattle.panel_conditions.specs.Changes.{TakesTold, TakesZones, TellSame}
+use Rattle.panel_conditions.specs.Told.{group_run}
 use Rattle.panel_conditions.proofs.NextBit.{IsNext, next_from}
 use Rattle.panel_conditions.proofs.AlreadyShown.{settled_taken}
 use Rattle.panel_conditions.proofs.Runs.{taken_by_none, taken_by_nothing, zones_as}
@@ -41,10 +40,9 @@ marks_from : (f : Finding) (old mid zones : Zones) → mid.changed ≡ old.chang
 marks_from f old mid zones changed signs (inl marked) = inl (marked ∙ ap (λ m. bit_or m (told_by f)) changed)
 marks_from f old mid zones changed signs (inr stays) = inr (stays.0 ∙ changed, subst (IsShown f) signs stays.1)
 
--- one of an eight's findings tells of zones
-pub eight_tells : (block : FindingBlock) (number : ℕ) → 0 < slice_index block.telling number → slice_index block.telling number < 2 ^ 8
-    → HasTelling (eight_run block number)
-eight_tells block number some small = record {
+-- one of a group's findings tells of zones
+pub group_tells_some : (group : FindingGroup) → 0 < group.telling → group.telling < 2 ^ 8 → HasTelling (group_run group)
+group_tells_some group some small = record {
   place = place;
   from = omega arith;
   below = elim (lt_tells place 8) [ inl near ↦ near.1 | inr far ↦ absurd (apart (beyond far.1)) ];
@@ -52,7 +50,7 @@ eight_tells block number some small = record {
 }
   where
     mask : ℕ
-    mask = slice_index block.telling number
+    mask = group.telling
 
     place : ℕ
     place = 0 + trailing_zeros w32 (mask / 2 ^ 0)
@@ -65,6 +63,15 @@ eight_tells block number some small = record {
 
     beyond : 8 ≤ place → false ≡ true
     beyond far = sym (has_bit-above 8 mask place small far) ∙ next.set
+
+-- zones that take findings take any others that tell the same
+pub zones_same : (one other : List Finding) (old zones : Zones) → TellSame one other → TakesZones one old zones → TakesZones other old zones
+zones_same one other old zones same took = record {
+  watches = λ site panel done taken h.
+      zones_as site panel done taken one other zones.watches.items same (took.watches site panel done taken h);
+  settled = took.settled;
+  moved = took.moved;
+}
 
 -- what one finding tells of zones is taken of all that tell the same
 pub taken_as_told : (f : Finding) (old mid zones : Zones) → ZonesTake f old mid → Marks f mid zones

@@ -19,7 +19,7 @@ use Rattle.answer_lanes.specs.declared.finding_block.FindingBlock.{FindingBlock}
 use Rattle.answer_lanes.specs.declared.finding_group.FindingGroup.{FindingGroup}
 use Rattle.answer_lanes.specs.declared.run.Run.{Run}
 use Rattle.answer_lanes.specs.declared.told.Told.{Told}
-use Rattle.answer_lanes.specs.Blocks.{none_told}
+use Rattle.answer_lanes.specs.Blocks.{eight_found, none_told}
 use Rattle.tick_units.specs.LastTicks.{last_at, last_if}
 use Rattle.panel_conditions.specs.declared.sign.Sign.{Sign}
 use Rattle.panel_conditions.specs.declared.sign.Sign.TheVariants.{Alarm, Manual, Released, First}
@@ -30,6 +30,7 @@ use Rattle.panel_conditions.specs.declared.asked.Asked.{Asked}
 use Rattle.panel_conditions.specs.declared.asked.Asked.TheVariants.{Disabled, ZoneDisabled}
 use Rattle.panel_conditions.specs.declared.point_switch.PointSwitch.{PointSwitch}
 use Rattle.panel_conditions.specs.declared.points.Points.{Points}
+use Rattle.panel_conditions.specs.Told.{others_telling, own_telling}
 use Rattle.panel_conditions.specs.PointSets.{address_in, put_at, put_all, set_without}
 
 -- the later of two stamps, where the second one is of something that was told
@@ -112,20 +113,22 @@ pub record IsPlain (told : Told) : Type 0 where
   pub released : told.released ≡ told.confirmed
   pub manual : told.manual ≡ 0
 
--- one of a block's eights tells of its zones plainly, where it tells of any
+-- one of a block's eights tells of the zones of its group plainly, where it tells of any
 abbrev pub IsPlainEight : FindingBlock → ℕ → Type 0
 IsPlainEight block number =
-    0 < slice_index block.telling number → IsPlain (slice_index_or block.told number none_told)
+    0 < own_telling (eight_found block number) → IsPlain (slice_index_or block.told number none_told)
 
 -- all eights of a block do
 abbrev pub ArePlain : FindingBlock → Type 0
 ArePlain block =
     IsPlainEight block 0 × IsPlainEight block 1 × IsPlainEight block 2 × IsPlainEight block 3
 
--- the zones that one of a block's eights confirms
+-- the zones that one of a block's eights confirms: those of its group and the other ones, if any finding tells of them
 abbrev pub eight_confirms : FindingBlock → ℕ → ℕ
 eight_confirms block number =
-    if slice_index block.telling number == 0 then 0 else (slice_index_or block.told number none_told).confirmed
+    bit_or (if own_telling (eight_found block number) == 0 then 0
+    else (slice_index_or block.told number none_told).confirmed)
+    (if others_telling (eight_found block number) == 0 then 0 else slice_index block.other_zones number)
 
 -- the zones that a block's eights confirm
 abbrev pub block_confirms : FindingBlock → ℕ

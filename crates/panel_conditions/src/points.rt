@@ -1,8 +1,8 @@
-ghost use Rattle.std.specs.Prelude.{◌≡◌, ◌-◌, ◌∷◌, ℕ, true, false};
+ghost use Rattle.std.specs.Prelude.{◌≡◌, ◌-◌, ◌<◌, ◌∷◌, ℕ, true, false};
 ghost use Rattle.std.specs.Prelude.{IfOk, Some, option_copied, map, slice_get, slice_index};
 ghost use Rattle.site_types.specs.Bits.{has_bit, no_set};
 ghost use Rattle.site_types.specs.Valid.{IsValid};
-ghost use Rattle.answer_lanes.specs.Blocks.{block_finding_at};
+ghost use Rattle.answer_lanes.specs.Blocks.{block_finding_at, eight_finding_at};
 ghost use Rattle.answer_lanes.specs.Points.{finding_at};
 ghost use Rattle.answer_lanes.specs.Runs.{HasShortCount, items_of};
 
@@ -11,7 +11,7 @@ use crate::loop_address::LoopAddress;
 use crate::point_sets::{put, without};
 use crate::point_switch::PointSwitch;
 use crate::told_missing::ToldMissing;
-use answer_lanes::{FindingBlock, FindingGroup, Run};
+use answer_lanes::{FindingBlock, FindingGroup, Run, Several};
 use coincidence_rules::Finding;
 use site_types::{Item, Operation, Point, PointSet, Retained, Site, Zone, has_bit_32};
 use std::alloc::Global;
@@ -116,15 +116,20 @@ impl Points {
         self.take_eight(block, 3);
     }
 
-    // Takes note of the findings of one of a block's eights.
+    // Takes note of the findings of one of a block's eights. Where each tells of its point what was told of it last,
+    // nothing changes.
     fn take_eight(&mut self, block: &FindingBlock, number: u8)
-        ensures { TakesPoints (items_of finding_at (eight_run block.now number)) self.old self.new }
+        requires { number < 4 }
+        ensures { TakesPoints (items_of eight_finding_at (eight_run block.now number)) self.old
+            self.new }
     {
-        self.take_run(&Run {
-            first: block.eight(number),
-            taken: 0,
-            count: 8,
-        });
+        if self.told.has_eight(block, number) {
+            return;
+        }
+        let eight = block.eight(number);
+        for place in 0..8u8 {
+            self.take(&eight.item_at(place));
+        }
     }
 
     // Puts the point of a finding among the missing ones, or takes it out.

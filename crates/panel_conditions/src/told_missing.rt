@@ -1,6 +1,6 @@
 ghost use Rattle.std.specs.Prelude.{◌≡◌, ◌<◌, IfOk, Some, [], slice_get, true};
 ghost use Rattle.answer_lanes.specs.Runs.{HasShortCount};
-ghost use Rattle.panel_conditions.specs.Told.{AreTold, AreToldInBlock, MarksTold, TellMissing, eight_run};
+ghost use Rattle.panel_conditions.specs.Told.{AreTold, AreToldInBlock, AreToldInEight, MarksTold, TellMissing};
 
 use crate::next_bit::next_bit;
 use answer_lanes::{FindingBlock, FindingGroup, PlaceSet, Run};
@@ -65,7 +65,7 @@ impl ToldMissing {
     /// Whether the last finding of each point of one of a block's eights told it missing, or not, as the block does.
     pub fn has_eight(&self, block: &FindingBlock, number: u8) -> bool
         requires { number < 4 }
-        ensures { result ≡ true → AreTold self.now (eight_run block.now number) }
+        ensures { result ≡ true → AreToldInEight self.now block.now number }
     {
         let first = block.firsts[number as usize] as usize;
         first + 8 <= self.count

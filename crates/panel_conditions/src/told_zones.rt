@@ -5,10 +5,11 @@ ghost use Rattle.site_types.specs.Bits.{has_bit};
 ghost use Rattle.answer_lanes.specs.Runs.{HasShortCount};
 ghost use Rattle.panel_conditions.specs.Parts.{ArePlain, HasTelling, IsPlain, IsPlainEight, IsShown};
 ghost use Rattle.panel_conditions.specs.Parts.{block_confirms, eight_confirms, finding_of as telling, told_by};
+ghost use Rattle.panel_conditions.specs.Told.{group_run, others_of, own_of};
 
 use crate::next_bit::lowest_bit;
 use crate::signs::Signs;
-use answer_lanes::{FindingBlock, FindingGroup, Run, Told};
+use answer_lanes::{FindingBlock, FindingEight, FindingGroup, Run, Told};
 use coincidence_rules::Finding;
 use tick_units::Tick;
 
@@ -34,7 +35,7 @@ pub fn is_plain(told: &Told) -> bool
     told.manual == 0 && told.counted == told.confirmed && told.released == told.confirmed
 }
 
-/// The zones that a block's eights confirm, where each eight that tells of any tells of them plainly.
+/// The zones that a block's eights confirm, where each finding that tells of any tells of them plainly.
 pub fn plain_zones(block: &FindingBlock) -> Option<u32>
     ensures plain { IfSome result (λ zones. ArePlain block.now
         × (zones ≡ block_confirms block.now)) }
@@ -47,7 +48,8 @@ pub fn plain_zones(block: &FindingBlock) -> Option<u32>
     Some(first | second | third | fourth)
 }
 
-// The zones that one of a block's eights confirms, where it tells of them plainly; none where it tells of none.
+// The zones that one of a block's eights confirms, where it tells of them plainly; none where it tells of none. Of the
+// other zones it tells plainly in any case.
 #[inline(always)]
 fn plain_in(block: &FindingBlock, number: u8) -> Option<u32>
     requires { number < 4 }
@@ -56,14 +58,55 @@ fn plain_in(block: &FindingBlock, number: u8) -> Option<u32>
     ensures other { result ≡ None → ¬ IsPlainEight block.now number }
 {
     let place = number as usize;
-    if block.telling[place] == 0 {
-        return Some(0);
+    let telling = block.telling[place];
+    let others = telling & block.others[place];
+    let other_zones = if others == 0 {
+        0
+    } else {
+        block.other_zones[place]
+    };
+    if telling ^ others == 0 {
+        return Some(other_zones);
     }
     let told = &block.told[place];
     if is_plain(told) {
-        Some(told.confirmed)
+        Some(told.confirmed | other_zones)
     } else {
         None
+    }
+}
+
+/// The findings of an eight, of which those tell that tell of the zones of its group.
+pub fn of_own_zones(eight: &FindingEight) -> Run<FindingGroup>
+    ensures { result ≡ group_run (own_of eight.now) }
+{
+    let telling = eight.group.telling;
+    Run {
+        first: FindingGroup {
+            telling: telling ^ (telling & eight.others),
+            ..eight.group
+        },
+        taken: 0,
+        count: 8,
+    }
+}
+
+/// The findings of an eight, of which those tell that tell of its other zones.
+pub fn of_other_zones(eight: &FindingEight) -> Run<FindingGroup>
+    ensures { result ≡ group_run (others_of eight.now) }
+{
+    let zones = eight.other_zones;
+    Run {
+        first: FindingGroup {
+            telling: eight.group.telling & eight.others,
+            counted: zones,
+            confirmed: zones,
+            manual: 0,
+            released: zones,
+            ..eight.group
+        },
+        taken: 0,
+        count: 8,
     }
 }
 

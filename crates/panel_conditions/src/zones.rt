@@ -1,14 +1,16 @@
 ghost use Rattle.std.specs.Prelude.{◌≡◌, ◌-◌, ◌^◌, ◌<◌, ◌≤◌, ℕ, map, length, slice_get, bit_or, nat_lt};
 ghost use Rattle.std.specs.Prelude.{if◌then◌else◌, IfOk, option_copied, option_map};
 ghost use Rattle.coincidence_rules.specs.Places.{numbered};
-ghost use Rattle.answer_lanes.specs.Blocks.{block_finding_at};
+ghost use Rattle.answer_lanes.specs.Blocks.{block_finding_at, eight_finding_at};
 ghost use Rattle.answer_lanes.specs.Points.{finding_at};
 ghost use Rattle.answer_lanes.specs.Runs.{HasShortCount, items_of};
 
 use crate::next_bit::lowest_bit;
 use crate::sign::Sign;
 use crate::signs::Signs;
-use crate::told_zones::{finding_of, is_plain, is_shown, plain_zones, tells_any, told};
+use crate::told_zones::{
+    finding_of, is_plain, is_shown, of_other_zones, of_own_zones, plain_zones, tells_any, told,
+};
 use crate::zone_watch::ZoneWatch;
 use answer_lanes::{FindingBlock, FindingGroup, Run, Told};
 use coincidence_rules::Finding;
@@ -105,16 +107,14 @@ impl Zones {
         self.take_eight(block, 3);
     }
 
-    // Takes note of the findings of one of a block's eights, where any tells of zones.
+    // Takes note of the findings of one of a block's eights: first of its own zones, then of the other ones.
     fn take_eight(&mut self, block: &FindingBlock, number: u8)
-        requires { number < 4 }
-        ensures { TakesZones (items_of finding_at (eight_run block.now number)) self.old self.new }
+        ensures { TakesZones (items_of eight_finding_at (eight_run block.now number)) self.old
+            self.new }
     {
-        let place = number as usize;
-        if block.telling[place] == 0 {
-            return;
-        }
-        self.take_told(block.stamp, &block.told[place]);
+        let eight = block.eight(number);
+        self.take_run(&of_own_zones(&eight));
+        self.take_run(&of_other_zones(&eight));
     }
 
     // Takes note of what findings to an asking tell of zones.

@@ -4,8 +4,7 @@ use Rattle.answer_lanes.specs.Runs.{items_of}
 use Rattle.panel_conditions.specs.Changes.{TellSame}
 use Rattle.panel_conditions.specs.Parts.{finding_of, plain_told}
 use Rattle.panel_conditions.specs.Told.{block_run}
-use Rattle.panel_conditions.proofs.BlockRuns.{block_of_none}
-use Rattle.panel_conditions.proofs.PlainBlocks.{block_same}
+use Rattle.panel_conditions.proofs.PlainBlocks.{block_of_none, block_same}
 use Rattle.panel_conditions.proofs.zones.Zones.take_block.Goals as goal
 
 pub returns-then-first-second-eq0 : goal.returns-then-first-second-eq0

@@ -1,15 +1,24 @@
-use Rattle.std.proofs.Common.{arith}
+use Rattle.std.proofs.Common.{◌∙◌, ap, subst}
+use Rattle.answer_lanes.specs.Blocks.{eight_found}
 use Rattle.answer_lanes.specs.Points.{finding_at}
 use Rattle.answer_lanes.specs.Runs.{items_of}
-use Rattle.panel_conditions.specs.Told.{eight_run}
-use Rattle.panel_conditions.proofs.Runs.{run_tells}
-use Rattle.panel_conditions.proofs.ZoneRuns.{eight_tells, run_of_nothing}
+use Rattle.panel_conditions.specs.Changes.{TakesZones}
+use Rattle.panel_conditions.specs.Told.{group_run, others_of, own_of}
+use Rattle.panel_conditions.proofs.BlockRuns.{zones_then}
+use Rattle.panel_conditions.proofs.EightParts.{eight_parts}
+use Rattle.panel_conditions.proofs.ZoneRuns.{zones_same}
 use Rattle.panel_conditions.proofs.zones.Zones.take_eight.Goals as goal
-
-pub returns-then-block-place-eq0 : goal.returns-then-block-place-eq0
-returns-then-block-place-eq0 c = run_of_nothing (eight_run c.args.block.now c.args.number) c.args.self.now c.if-block-place-eq0.true
 
 pub returns : goal.returns
 returns c =
-    let eight = eight_run c.args.block.now c.args.number in
-    c.take_told.ensures (items_of finding_at eight) (run_tells eight (eight_tells c.args.block.now c.args.number (omega arith) (omega arith)))
+    let eight = eight_found c.args.block.now c.args.number in
+    let old = c.args.self.now in
+    let mid = c.take_run.new.self in
+    let last = c.take_run-2.new.self in
+    zones_same _ _ old last (eight_parts eight)
+    (zones_then (items_of finding_at (group_run (own_of eight))) (items_of finding_at (group_run (others_of eight))) old mid last
+    (subst (λ run. TakesZones (items_of finding_at run) old mid) (c.of_own_zones.ensures ∙ ap (λ e. group_run (own_of e)) c.eight-eight.ensures)
+    (record { watches = c.take_run.ensures.watches; settled = c.take_run.ensures.settled; moved = c.take_run.ensures.moved }))
+    (subst (λ run. TakesZones (items_of finding_at run) mid last)
+    (c.of_other_zones.ensures ∙ ap (λ e. group_run (others_of e)) c.eight-eight.ensures)
+    (record { watches = c.take_run-2.ensures.watches; settled = c.take_run-2.ensures.settled; moved = c.take_run-2.ensures.moved })))
