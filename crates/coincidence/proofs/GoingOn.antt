@@ -2,7 +2,8 @@
 use Rattle.std.proofs.Common.{◌≡◌, ◌≢◌, inl, inr, ℕ, ◌+◌, ◌<◌, ◌≤◌, ◌^◌, ◌==◌, ◌&&◌, ◌||◌, Bool, true}
 use Rattle.std.proofs.Common.{false, not, List, [], ◌∷◌, ◌++◌, Some, length, max, min, slice_get, get_or, bit_and}
 use Rattle.std.proofs.Common.{if◌then◌else◌, refl, sym, ◌∙◌, ap, subst, arith}
-use Rattle.std.specs.Int.{w8, bit_not}
+use Rattle.std.specs.Int.{Width, w8, bit_not}
+use mir.Val.{bits}
 use Rattle.std.proofs.lemmas.Nat.{and_le_l}
 use Rattle.std.proofs.lemmas.List.FromFn.{get_or-map-range_with_len}
 use Rattle.std.proofs.lemmas.Option.{slice_get-get_or}
@@ -302,11 +303,12 @@ fewer_go_on decide run bits left going among = record {
   since = going.since;
 }
 
--- a byte of which another one takes all bits has no bits beside those
-pub bits_among : (byte others k : ℕ) → others < 2 ^ 8 → bit_and byte (bit_not w8 others) ≡ 0 → k < 8 → has_bit byte k ≡ true → has_bit others k ≡ true
-bits_among byte others k below none eight is =
-    both (has_bit byte k) (has_bit others k) is
-    (ap (λ b. has_bit byte k && b) (sym (has_bit-not w8 others k below eight)) ∙ sym (has_bit-and byte (bit_not w8 others) k)
+-- a mask of which another one takes all bits has no bits beside those
+pub bits_among : (w : Width) (mask others k : ℕ) → others < 2 ^ bits w → bit_and mask (bit_not w others) ≡ 0 → k < bits w → has_bit mask k ≡ true
+    → has_bit others k ≡ true
+bits_among w mask others k below none within is =
+    both (has_bit mask k) (has_bit others k) is
+    (ap (λ b. has_bit mask k && b) (sym (has_bit-not w others k below within)) ∙ sym (has_bit-and mask (bit_not w others) k)
     ∙ ap (λ n. has_bit n k) none ∙ has_bit-zero k)
   where
     both : (a b : Bool) → a ≡ true → (a && not b) ≡ false → b ≡ true

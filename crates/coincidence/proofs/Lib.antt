@@ -22,6 +22,7 @@ pub mod Passed
 pub mod ZoneParts
 pub mod ZoneEights
 pub mod Steady
+pub mod BlockWords
 -- operations: what is kept after one, by its kind, and that those of other panels change nothing
 pub mod AppliedOperation
 pub mod OperationKinds

@@ -96,18 +96,28 @@ module _ {site : Site} {kept : Retained} {panel : ℕ} {done : List Done} {taken
       quiet_is stands_at_rest answer (fits_last site kept panel done taken answer may) (no_alarm_left answer.heard w.watch left) w.watch read
       (is_silent answer.heard) (missing_left answer.heard w.watch left)
 
+-- a quiet answer of a point at rest leaves its point
+pub left_quiet : (decide : Decide) (answer : Answer) (resting : Bool) → ((watch : PointWatch) → slice_get decide.points answer.point ≡ Some watch → resting ≡ is_at_rest watch)
+    → resting ≡ true → answer.heard ≡ Quiet → LeavesPoint decide answer
+left_quiet decide answer resting rests is heard watch there = ap (λ h. leaves_watch h watch) heard ∙ sym (rests watch there) ∙ is
+
+-- what is heard where there is neither an alarm nor silence
+pub quiet : (alarm silent : Bool) → not alarm ≡ true → silent ≡ false → (if alarm then Alarm else if silent then Silent else Quiet) ≡ Quiet
+quiet true silent e f = absurd (cc)
+quiet false true e f = absurd (cc)
+quiet false false e f = refl
+
 -- an answer that is quiet of a point at rest, or silent of one that stays missing, leaves its point
-left_if : (decide : Decide) (answer : Answer) (quiet silent : Bool) → ((watch : PointWatch) → slice_get decide.points answer.point ≡ Some watch → quiet ≡ is_at_rest watch)
-    → ((watch : PointWatch) → slice_get decide.points answer.point ≡ Some watch → silent ≡ stays_missing watch) → IsMatching answer.heard quiet silent
+pub left_if : (decide : Decide) (answer : Answer) (resting silent : Bool) → ((watch : PointWatch) → slice_get decide.points answer.point ≡ Some watch → resting ≡ is_at_rest watch)
+    → ((watch : PointWatch) → slice_get decide.points answer.point ≡ Some watch → silent ≡ stays_missing watch) → IsMatching answer.heard resting silent
     → LeavesPoint decide answer
-left_if decide answer quiet silent rests missing (inl is) watch there =
-    ap (λ h. leaves_watch h watch) is.0 ∙ sym (rests watch there) ∙ is.1
-left_if decide answer quiet silent rests missing (inr is) watch there =
+left_if decide answer resting silent rests missing (inl is) watch there = left_quiet decide answer resting rests is.1 is.0 watch there
+left_if decide answer resting silent rests missing (inr is) watch there =
     ap (λ h. leaves_watch h watch) is.0 ∙ sym (missing watch there) ∙ is.1
 
 -- the answers of a group whose bits tell that their points are left as they are leave them
 module _ (decide : Decide) (answers : AnswerGroup) (points : answers.point ≤ 65527) where
-  point_is : (k : ℕ) → k < 8 → (answer_at answers k).point ≡ answers.point + k
+  pub point_is : (k : ℕ) → k < 8 → (answer_at answers k).point ≡ answers.point + k
   point_is k eight = omega (arith, eight, points)
 
   pub still_matching : (resting missing bits : ℕ) → TellsEight is_at_rest decide.points answers.point resting
@@ -123,17 +133,13 @@ module _ (decide : Decide) (answers : AnswerGroup) (points : answers.point ≤ 6
   pub still_quiet : (resting alarms bits : ℕ) → TellsEight is_at_rest decide.points answers.point resting → answers.silents ≡ 0
       → ((k : ℕ) → k < 8 → has_bit alarms k ≡ has_bit answers.alarms (0 + k))
       → ((k : ℕ) → k < 8 → has_bit bits k ≡ (has_bit resting k && not (has_bit alarms k))) → AreStill decide answers bits
-  still_quiet resting alarms bits rests none same_bits parts k eight set_bit watch there =
+  still_quiet resting alarms bits rests none same_bits parts k eight set_bit =
       let here : 0 + k ≡ k = omega arith in
       let both = and_both (has_bit resting k) (not (has_bit alarms k)) (sym (parts k eight) ∙ set_bit) in
       let no_alarm = sym (ap not (same_bits k eight ∙ ap (has_bit answers.alarms) here)) ∙ both.1 in
-      ap (λ h. leaves_watch h watch) (quiet (has_bit answers.alarms k) (has_bit answers.silents k) no_alarm (ap (λ m. has_bit m k) none ∙ has_bit-zero k))
-      ∙ sym (rests k watch eight (ap (slice_get decide.points) (sym (point_is k eight)) ∙ there)) ∙ both.0
-    where
-      quiet : (alarm silent : Bool) → not alarm ≡ true → silent ≡ false → (if alarm then Alarm else if silent then Silent else Quiet) ≡ Quiet
-      quiet true silent e f = absurd (cc)
-      quiet false true e f = absurd (cc)
-      quiet false false e f = refl
+      left_quiet decide (answer_at answers k) (has_bit resting k)
+      (λ watch there. rests k watch eight (ap (slice_get decide.points) (sym (point_is k eight)) ∙ there)) both.0
+      (quiet (has_bit answers.alarms k) (has_bit answers.silents k) no_alarm (ap (λ m. has_bit m k) none ∙ has_bit-zero k))
 
 -- of a run the others may change them
 pub changing_in_run : (decide : Decide) (run : Run AnswerGroup) (still behind front changing : ℕ) → IsWithinEight run → AreStill decide run.first still

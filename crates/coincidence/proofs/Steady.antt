@@ -1,7 +1,6 @@
 -- Answers that leave all that is kept as it is are told of at once, eight by eight.
-use Rattle.std.proofs.Common.{◌+◌, Bool, bit_and, ◌≤◌, true, false, not, ◌&&◌, if◌then◌else◌, ◌≡◌, ℕ, zero, suc, ◌<◌, List, [], ◌∷◌, ◌++◌}
+use Rattle.std.proofs.Common.{◌+◌, Bool, ◌≤◌, true, false, not, ◌&&◌, if◌then◌else◌, ◌≡◌, ℕ, zero, suc, ◌<◌, List, [], ◌∷◌, ◌++◌}
 use Rattle.std.proofs.Common.{map, nat_lt, refl, slice_index, slice_index_or, sym, ◌∙◌, ap, subst, arith}
-use Rattle.std.proofs.lemmas.Nat.{and_le_l, and_le_r}
 use Rattle.std.specs.List.{range_with_len}
 use Rattle.tick_units.specs.Lane.{with_put}
 use Rattle.site_types.specs.declared.answer.Answer.{Answer}
@@ -223,16 +222,6 @@ none_changing decide answers points no_alarms no_silents rests = record {
         still_quiet decide answers points 255 0 255 rests no_silents
         (λ k small. has_bit-zero k ∙ sym (ap (λ m. has_bit m (0 + k)) no_alarms ∙ has_bit-zero (0 + k)))
         (λ k small. both (has_bit 255 k) ∙ sym (ap (λ b. has_bit 255 k && not b) (has_bit-zero k)))
-
--- bytes of which all bits are set in both
-pub both_full : (a b : ℕ) → a < 256 → b < 256 → bit_and a b ≡ 255 → (a ≡ 255) × (b ≡ 255)
-both_full a b fits also is =
-    let left = and_le_l a b in
-    let right = and_le_r a b in
-    (omega (arith, left, fits, is), omega (arith, right, also, is))
-
-pub and_fits : (a b : ℕ) → a < 256 → bit_and a b < 256
-and_fits a b fits = let left = and_le_l a b in omega (arith, left, fits)
 
 -- eights of one tick
 pub same_stamps : (a b c : FindingEight) (stamp : Tick) → a.group.stamp ≡ stamp → b.group.stamp ≡ stamp → c.group.stamp ≡ stamp → (k : ℕ)

@@ -1,6 +1,6 @@
 -- Alarms that go on in a plain zone: each of them counts, and changes nothing of what is kept of its point.
 use Rattle.std.specs.Prelude.{◌≡◌, [], ◌∷◌, ◌+◌, ◌<◌, ◌≤◌, ℕ, List, Some, false, slice_get}
-use Rattle.std.specs.Prelude.{◌^◌, ◌==◌, if◌then◌else◌, length, slice_index_or, true}
+use Rattle.std.specs.Prelude.{◌^◌, ◌==◌, if◌then◌else◌, length, slice_index, slice_index_or, true}
 use Rattle.site_types.specs.Changes.{IsNumber}
 use Rattle.site_types.specs.declared.heard.Heard.TheVariants.{Alarm}
 use Rattle.site_types.specs.declared.retained.Retained.{Retained}
@@ -9,8 +9,10 @@ use Rattle.site_types.specs.Done.{Done}
 use Rattle.answer_lanes.specs.Places.{has_place}
 use Rattle.site_types.specs.declared.answer.Answer.{Answer}
 use Rattle.site_types.specs.Bits.{has_bit}
+use Rattle.answer_lanes.specs.declared.answer_block.AnswerBlock.{AnswerBlock}
 use Rattle.answer_lanes.specs.declared.answer_group.AnswerGroup.{AnswerGroup}
 use Rattle.answer_lanes.specs.declared.run.Run.{Run}
+use Rattle.answer_lanes.specs.Blocks.{eight_of}
 use Rattle.answer_lanes.specs.Points.{answer_at, mask_if}
 use Rattle.coincidence_rules.specs.Counted.{is_alarm, is_silent}
 use Rattle.coincidence_rules.specs.declared.finding.Finding.{Finding}
@@ -21,6 +23,7 @@ use Rattle.coincidence.specs.declared.zone_watch.ZoneWatch.{ZoneWatch}
 use Rattle.coincidence.specs.Changes.{FindsNext, TakesAnswers}
 use Rattle.coincidence.specs.Places.{GoesOnFrom}
 use Rattle.coincidence.specs.Stands.{DecidesFor}
+use Rattle.coincidence.specs.Steady.{all_of_eight}
 
 -- an answer is an alarm of one of the points whose alarms go on
 pub record IsMarkedAlarm (decide : Decide) (answer : Answer) : Type 0 where
@@ -38,6 +41,11 @@ pub record AreGoingOn (decide : Decide) (run : Run AnswerGroup) (bits : ℕ) : T
   pub within : (k : ℕ) → has_bit bits k ≡ true → k < run.count
   pub marked : AreMarkedAlarms decide run bits
   pub since : decide.since.0 ≤ run.first.stamp.0
+
+-- a byte for each eight of a block tells so of its answers
+abbrev pub AreGoingOnIn : Decide → AnswerBlock → List ℕ → Type 0
+AreGoingOnIn decide block bytes =
+    (number : ℕ) → number < 4 → AreGoingOn decide (all_of_eight (eight_of block number)) (slice_index bytes number)
 
 -- an answer is of a point in a zone
 pub record IsInZone (decide : Decide) (answer : Answer) (zone : ℕ) : Type 0 where

@@ -1,6 +1,6 @@
 -- The points that a set of places has, and the zones of the eight points from a place on.
 use Rattle.std.specs.Prelude.{◌≡◌, ◌+◌, ◌*◌, ◌<◌, ◌≤◌, ◌||◌, ℕ, Bool, List, None, Option, Some, false, length}
-use Rattle.std.specs.Prelude.{if◌then◌else◌, max, nat_lt, slice_get, slice_index_or, true}
+use Rattle.std.specs.Prelude.{if◌then◌else◌, max, nat_lt, slice_get, slice_index, slice_index_or, true}
 use Rattle.tick_units.specs.declared.last_done.LastDone.{LastDone}
 use Rattle.tick_units.specs.declared.tick.Tick.{Tick}
 use Rattle.tick_units.specs.LastTicks.{last_at}
@@ -23,6 +23,12 @@ pub record HasPointsWhere (test : PointWatch → Bool) (watches : List PointWatc
 abbrev pub TellsEight : (PointWatch → Bool) → List PointWatch → ℕ → ℕ → Type 0
 TellsEight test watches first byte =
     (k : ℕ) (watch : PointWatch) → k < 8 → slice_get watches (first + k) ≡ Some watch → has_bit byte k ≡ test watch
+
+-- the bits of a word tell so of eight points from each of four on, those of the first one lowest
+abbrev pub TellsEights : (PointWatch → Bool) → List PointWatch → List ℕ → ℕ → Type 0
+TellsEights test watches firsts word =
+    (number k : ℕ) (watch : PointWatch) → number < 4 → k < 8
+    → slice_get watches (slice_index firsts number + k) ≡ Some watch → has_bit word (8 * number + k) ≡ test watch
 
 -- the point at a place is of a zone
 pub record IsPointInZone (watches : List PointWatch) (zone place : ℕ) : Type 0 where

@@ -1,5 +1,5 @@
 -- Answers of whole eights and blocks that change nothing of what is kept, and what is told of them at once.
-use Rattle.std.specs.Prelude.{◌≡◌, ◌<◌, ◌≤◌, ℕ, [], ◌∷◌, List, slice_index}
+use Rattle.std.specs.Prelude.{◌≡◌, ◌+◌, ◌*◌, ◌<◌, ◌≤◌, ℕ, [], ◌∷◌, List, slice_index, true}
 use Rattle.tick_units.specs.Lane.{LaneState, with_put}
 use Rattle.site_types.specs.declared.answer.Answer.{Answer}
 use Rattle.answer_lanes.specs.declared.answer_block.AnswerBlock.{AnswerBlock}
@@ -15,7 +15,7 @@ use Rattle.coincidence_rules.specs.Counted.{is_silent}
 use Rattle.coincidence_rules.specs.declared.finding.Finding.{Finding}
 use Rattle.coincidence.specs.declared.decide.Decide.{Decide}
 use Rattle.coincidence.specs.Changes.{PutsFindings, TakesAnswers}
-use Rattle.coincidence.specs.Resting.{TellsChanging, plain_of}
+use Rattle.coincidence.specs.Resting.{LeavesPoint, TellsChanging, plain_of}
 
 -- all that an eight holds
 abbrev pub all_of_eight : {S : Type 0} → S → Run S
@@ -28,6 +28,12 @@ all_of_block block = record { first = block; taken = 0; count = 32 }
 -- the points of each eight of a block have different numbers
 abbrev pub HasNumberedPoints : AnswerBlock → Type 0
 HasNumberedPoints block = (number : ℕ) → number < 4 → slice_index block.firsts number ≤ 65527
+
+-- the bits of a word, eight for each eight of a block, tell which of its answers leave what is kept of their points as
+-- it is
+abbrev pub AreStillIn : Decide → AnswerBlock → ℕ → Type 0
+AreStillIn decide block word = (number k : ℕ) → number < 4 → k < 8 → has_bit word (8 * number + k) ≡ true
+    → LeavesPoint decide (answer_at (eight_of block number) k)
 
 -- a byte for each eight of a block tells which of its answers may change what is kept of their points
 abbrev pub TellChanging : Decide → AnswerBlock → List ℕ → Type 0

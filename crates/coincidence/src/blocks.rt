@@ -1,22 +1,24 @@
 //! Runs of blocks: taken eight by eight, or passed over at once.
 
 ghost use Rattle.std.specs.Prelude.{◌≡◌, ◌<◌, ◌≤◌, ◌+◌, [], ◌∷◌, IfSome, false, true};
-ghost use Rattle.answer_lanes.specs.Blocks.{block_answer_at, eight_of};
+ghost use Rattle.answer_lanes.specs.Blocks.{block_answer_at};
 ghost use Rattle.answer_lanes.specs.Points.{answer_at};
 ghost use Rattle.answer_lanes.specs.Runs.{front_of, items_of};
 
 use crate::bits::{bits_past, one_bit};
 use crate::decide::Decide;
 use crate::rules::{plain_block, plain_group, quiet_block, telling_group};
-use answer_lanes::{AnswerBlock, AnswerGroup, FindingBlock, FindingEight, Lane, Run};
+use answer_lanes::{
+    AnswerBlock, AnswerGroup, FindingBlock, FindingEight, Lane, Run, joined, parted,
+};
 
 impl Decide {
     ghost use Rattle.coincidence.specs.Changes.{CanTakeAnswerRun, CanTakeRunOf, TakesAnswerRun, TakesRunOf};
-    ghost use Rattle.coincidence.specs.GoingOn.{HasZoneAt, IsMaskOf};
+    ghost use Rattle.coincidence.specs.GoingOn.{AreGoingOn, AreGoingOnIn, HasZoneAt, IsMaskOf};
     ghost use Rattle.coincidence.specs.Resting.{TellsChanging};
     ghost use Rattle.coincidence.specs.Stands.{CanTake};
     ghost use Rattle.coincidence.specs.Steady.{HasNumberedPoints, IsQuietBlock, IsSteadyBlock, IsSteadyEight};
-    ghost use Rattle.coincidence.specs.Steady.{TellChanging, all_of_block, all_of_eight};
+    ghost use Rattle.coincidence.specs.Steady.{AreStillIn, TellChanging, all_of_block, all_of_eight};
 
     // Puts the findings of a run of a block whose answers change nothing of what is kept. Tells whether it is such a
     // run, and leaves any other one as it is.
@@ -83,12 +85,7 @@ impl Decide {
         requires quiet { IsQuietBlock block.now }
         ensures { result ≡ true → TellChanging self.now block.now (0 ∷ 0 ∷ 0 ∷ 0 ∷ []) }
     {
-        let [first, second, third, fourth] = block.firsts;
-        let rests = self.points.resting_from(first as usize)
-            & self.points.resting_from(second as usize)
-            & self.points.resting_from(third as usize)
-            & self.points.resting_from(fourth as usize);
-        rests == 255
+        self.points.resting_in(&block.firsts) == u32::MAX
     }
 
     // Puts the findings of a whole block, plain or with alarms that go on, whose answers change nothing of what is
@@ -129,12 +126,24 @@ impl Decide {
         requires { HasNumberedPoints block.now }
         ensures { TellChanging self.now block.now result }
     {
-        [
-            self.changing_bits(&whole_eight(block, 0)),
-            self.changing_bits(&whole_eight(block, 1)),
-            self.changing_bits(&whole_eight(block, 2)),
-            self.changing_bits(&whole_eight(block, 3)),
-        ]
+        parted(!self.still_in(block))
+    }
+
+    // Which of the answers of a block leave what is kept of their points as it is, a bit for each. Where none is silent
+    // it need not be read which points stay missing.
+    #[inline(always)]
+    fn still_in(&self, block: &AnswerBlock) -> u32
+        requires { HasNumberedPoints block.now }
+        ensures { AreStillIn self.now block.now result }
+    {
+        let alarms = joined(&block.alarms);
+        let silents = joined(&block.silents);
+        let resting = self.points.resting_in(&block.firsts);
+        if silents == 0 {
+            return resting & !alarms;
+        }
+        let missing = self.points.missing_in(&block.firsts);
+        (resting & !silents | missing & silents) & !alarms
     }
 
     // The findings of a block where those answers that may change what is kept of their points, by these bits, are all
@@ -146,11 +155,28 @@ impl Decide {
         requires can { CanTake self.now (items_of block_answer_at (all_of_block block.now)) }
         ensures { IfSome result (λ found. IsSteadyBlock self.now block.now found) }
     {
+        if !self.all_go_on_in(block, changing) {
+            return None;
+        }
         let first = self.eight_going_on(&block.eight(0), changing[0])?;
         let second = self.eight_going_on(&block.eight(1), changing[1])?;
         let third = self.eight_going_on(&block.eight(2), changing[2])?;
         let fourth = self.eight_going_on(&block.eight(3), changing[3])?;
         Some(FindingBlock::of(&[first, second, third, fourth]))
+    }
+
+    // Whether those answers of a block of which the bits tell are all alarms that go on.
+    #[inline(always)]
+    fn all_go_on_in(&self, block: &AnswerBlock, changing: [u8; 4]) -> bool
+        requires numbers { HasNumberedPoints block.now }
+        requires tells { TellChanging self.now block.now changing }
+        ensures { result ≡ true → AreGoingOnIn self.now block.now changing }
+    {
+        if block.stamp.0 < self.since.0 {
+            return false;
+        }
+        let marked = self.going_on.eights_from(&block.firsts) & joined(&block.alarms);
+        joined(&changing) & !marked == 0
     }
 
     // The findings of an eight where those answers that may change what is kept of their points, by these bits, are all
@@ -159,19 +185,12 @@ impl Decide {
     fn eight_going_on(&self, answers: &AnswerGroup, changing: u8) -> Option<FindingEight>
         requires point { answers.now.point ≤ 65527 }
         requires tells { TellsChanging self.now (all_of_eight answers.now) changing }
+        requires going { AreGoingOn self.now (all_of_eight answers.now) changing }
         requires can { CanTake self.now (items_of answer_at (all_of_eight answers.now)) }
         ensures { IfSome result (λ found. IsSteadyEight self.now answers.now found) }
     {
         if changing == 0 {
             return Some(FindingEight::from(plain_group(answers)));
-        }
-        let run = Run {
-            first: *answers,
-            taken: 0,
-            count: 8,
-        };
-        if !self.all_go_on(&run, changing) {
-            return None;
         }
         let split = self.points.split_of_eight(answers.point as usize)?;
         Some(FindingEight {
@@ -231,18 +250,7 @@ fn first_eight(run: &Run<AnswerBlock>) -> Run<AnswerGroup>
     }
 }
 
-ghost use Rattle.coincidence.specs.Steady.{HasNumberedPoints, IsQuietBlock, all_of_eight};
-
-// All answers of one of the eights of a block.
-fn whole_eight(block: &AnswerBlock, number: u8) -> Run<AnswerGroup>
-    ensures { result ≡ all_of_eight (eight_of block.now number) }
-{
-    Run {
-        first: block.eight(number),
-        taken: 0,
-        count: 8,
-    }
-}
+ghost use Rattle.coincidence.specs.Steady.{HasNumberedPoints, IsQuietBlock};
 
 // Whether the points of each eight of a block have different numbers.
 fn has_numbers(block: &AnswerBlock) -> bool

@@ -45,7 +45,7 @@ impl PointWatches {
     ghost use Rattle.site_types.specs.declared.point.Point.{Point as PointPlan};
     ghost use Rattle.coincidence.specs.Changes.{IsSwitchedBefore, NotesPoint, SwitchesPoint};
     ghost use Rattle.coincidence.specs.Parts.{point_from, is_at_rest, leaves_watch, stays_missing};
-    ghost use Rattle.coincidence.specs.Places.{TellsEight, TellsSplit};
+    ghost use Rattle.coincidence.specs.Places.{TellsEight, TellsEights, TellsSplit};
 
     /// What is kept of some points at the start.
     pub fn new(alloc: Global, points: &[Point], kept: &Retained) -> Result<PointWatches, NoMemory>
@@ -132,6 +132,22 @@ impl PointWatches {
         ensures { TellsEight stays_missing self.now first result }
     {
         self.missing.eight_from(first)
+    }
+
+    /// Which of the eight points from each of four places on are at rest, in one word, those of the first one lowest.
+    #[inline(always)]
+    pub fn resting_in(&self, firsts: &[u16; 4]) -> u32
+        ensures { TellsEights is_at_rest self.now firsts.now result }
+    {
+        self.resting.eights_from(firsts)
+    }
+
+    /// Which of the eight points from each of four places on stay missing, in one word, those of the first one lowest.
+    #[inline(always)]
+    pub fn missing_in(&self, firsts: &[u16; 4]) -> u32
+        ensures { TellsEights stays_missing self.now firsts.now result }
+    {
+        self.missing.eights_from(firsts)
     }
 
     /// How the eight points from a place on stand in zones, if in no more than two that follow one another.

@@ -1,12 +1,17 @@
 use Rattle.std.proofs.Common.{◌≤◌, sym, ◌∙◌, subst, arith}
 use Rattle.std.specs.List.{slice_index}
 use Rattle.answer_lanes.specs.Blocks.{eight_found, eight_of}
+use Rattle.coincidence.specs.GoingOn.{AreGoingOn, AreGoingOnIn}
 use Rattle.coincidence.specs.Resting.{TellsChanging}
 use Rattle.coincidence.specs.Stands.{CanTake}
 use Rattle.coincidence.specs.Steady.{AreSteady, IsSteadyEight, all_of_eight}
 use Rattle.coincidence.proofs.Steady.{all_four, answers_in, can_first, can_fourth, can_second, can_third, found_in, same_stamps, steady_block}
 use Rattle.coincidence.proofs.decide.Decide.block_going_on.Goals as goal
-use Rattle.coincidence.proofs.decide.Decide.block_going_on.Goals.{After-eight-2, After-eight-3, After-eight-4}
+use Rattle.coincidence.proofs.decide.Decide.block_going_on.Goals.{After-eight, After-eight-2, After-eight-3, After-eight-4}
+
+-- all that may change what is kept goes on
+going : (c : After-eight) → AreGoingOnIn c.args.self.now c.args.block.now c.args.changing
+going c = c.all_go_on_in.ensures c.if-not-all_go_on_in.false
 
 -- what is found of each eight
 first : (c : After-eight-2) → IsSteadyEight c.args.self.now (eight_of c.args.block.now 0) c.in_ok-first.first
@@ -18,9 +23,28 @@ second c = subst (λ eight. IsSteadyEight c.args.self.now eight c.in_ok-second.s
 third : (c : After-eight-4) → IsSteadyEight c.args.self.now (eight_of c.args.block.now 2) c.in_ok-third.third
 third c = subst (λ eight. IsSteadyEight c.args.self.now eight c.in_ok-third.third) c.eight-3.ensures c.in_ok-third.ensures
 
+pub eight_going_on-requires-clause-going : goal.eight_going_on-requires-clause-going
+eight_going_on-requires-clause-going c =
+    subst (λ eight. AreGoingOn c.args.self.now (all_of_eight eight) (slice_index c.args.changing 0)) (sym c.eight.ensures)
+    (going (goal.at.eight_going_on-requires-clause-going c).After-eight 0 (omega arith))
+
 pub eight_going_on-requires-clause-can : goal.eight_going_on-requires-clause-can
 eight_going_on-requires-clause-can c =
     subst (λ eight. CanTake c.args.self.now (answers_in eight)) (sym c.eight.ensures) (can_first c.args.self.now c.args.block.now c.requires.can)
+
+pub eight_going_on-requires-2-clause-point : goal.eight_going_on-requires-2-clause-point
+eight_going_on-requires-2-clause-point c =
+    subst (λ eight. eight.point ≤ 65527) (sym c.eight-2.ensures) (c.requires.numbers 1 (omega arith))
+
+pub eight_going_on-requires-2-clause-tells : goal.eight_going_on-requires-2-clause-tells
+eight_going_on-requires-2-clause-tells c =
+    subst (λ eight. TellsChanging c.args.self.now (all_of_eight eight) (slice_index c.args.changing 1)) (sym c.eight-2.ensures)
+    (c.requires.tells 1 (omega arith))
+
+pub eight_going_on-requires-2-clause-going : goal.eight_going_on-requires-2-clause-going
+eight_going_on-requires-2-clause-going c =
+    subst (λ eight. AreGoingOn c.args.self.now (all_of_eight eight) (slice_index c.args.changing 1)) (sym c.eight-2.ensures)
+    (going (goal.at.eight_going_on-requires-2-clause-going c).After-eight 1 (omega arith))
 
 pub eight_going_on-requires-2-clause-can : goal.eight_going_on-requires-2-clause-can
 eight_going_on-requires-2-clause-can c =
@@ -36,6 +60,11 @@ eight_going_on-requires-3-clause-tells c =
     subst (λ eight. TellsChanging c.args.self.now (all_of_eight eight) (slice_index c.args.changing 2)) (sym c.eight-3.ensures)
     (c.requires.tells 2 (omega arith))
 
+pub eight_going_on-requires-3-clause-going : goal.eight_going_on-requires-3-clause-going
+eight_going_on-requires-3-clause-going c =
+    subst (λ eight. AreGoingOn c.args.self.now (all_of_eight eight) (slice_index c.args.changing 2)) (sym c.eight-3.ensures)
+    (going (goal.at.eight_going_on-requires-3-clause-going c).After-eight 2 (omega arith))
+
 pub eight_going_on-requires-3-clause-can : goal.eight_going_on-requires-3-clause-can
 eight_going_on-requires-3-clause-can c =
     let at = goal.at.eight_going_on-requires-3-clause-can c in
@@ -50,6 +79,11 @@ pub eight_going_on-requires-4-clause-tells : goal.eight_going_on-requires-4-clau
 eight_going_on-requires-4-clause-tells c =
     subst (λ eight. TellsChanging c.args.self.now (all_of_eight eight) (slice_index c.args.changing 3)) (sym c.eight-4.ensures)
     (c.requires.tells 3 (omega arith))
+
+pub eight_going_on-requires-4-clause-going : goal.eight_going_on-requires-4-clause-going
+eight_going_on-requires-4-clause-going c =
+    subst (λ eight. AreGoingOn c.args.self.now (all_of_eight eight) (slice_index c.args.changing 3)) (sym c.eight-4.ensures)
+    (going (goal.at.eight_going_on-requires-4-clause-going c).After-eight 3 (omega arith))
 
 pub eight_going_on-requires-4-clause-can : goal.eight_going_on-requires-4-clause-can
 eight_going_on-requires-4-clause-can c =

@@ -31,6 +31,6 @@ returns c =
       stamp = ap (λ f. f.stamp) (c.telling_group.ensures.own 0);
       steady = split_eight self answers (record { group = c.telling_group.result; others = c.bits_past.result; other_zones = c.mask_of-2.result }) split.front
           c.mask_of.result c.telling_group.ensures.own c.telling_group.ensures.others c.bits_past.ensures
-          (confirms_split self answers split c.requires.point c.in_ok-split.ensures c.args.changing c.requires.tells (c.all_go_on.ensures c.if-not-all_go_on.false)
+          (confirms_split self answers split c.requires.point c.in_ok-split.ensures c.args.changing c.requires.tells c.requires.going
           c.mask_of.result c.mask_of-2.result c.mask_of.ensures c.mask_of-2.ensures);
     }

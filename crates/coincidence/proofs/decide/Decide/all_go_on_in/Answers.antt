@@ -1,0 +1,8 @@
+use Rattle.std.proofs.lemmas.Bool.{eqb-true}
+use Rattle.coincidence.proofs.BlockWords.{going_on_in}
+use Rattle.coincidence.proofs.decide.Decide.all_go_on_in.Goals as goal
+
+pub returns : goal.returns
+returns c is =
+    going_on_in c.args.self.now c.args.block.now c.requires.numbers c.args.changing c.requires.tells c.if-block-self.false c.joined-2.result
+    c.eights_from.result c.joined.result c.joined.type_inv c.joined-2.ensures c.eights_from.ensures c.joined.ensures (eqb-true _ 0 is)
