@@ -14,7 +14,7 @@ use Rattle.coincidence.specs.declared.decide.Decide.{Decide}
 use Rattle.coincidence.specs.declared.point_watch.PointWatch.{PointWatch}
 use Rattle.coincidence.specs.declared.zone_split.ZoneSplit.{ZoneSplit}
 use Rattle.coincidence.specs.GoingOn.{AreGoingOn, ConfirmsAgain, HasZoneAt, IsInZone, IsMaskOf}
-use Rattle.coincidence.specs.Places.{AreSplit, IsPointInZone, IsZonesEnd, TellSplits, TellsSplit, zone_in}
+use Rattle.coincidence.specs.Places.{AreSplit, IsPointInZone, IsZonesEnd, TellSplits, TellsSplit, split_zone}
 use Rattle.coincidence.specs.Resting.{IsWithinEight, TellsChanging}
 use Rattle.coincidence.specs.Stands.{CanTake}
 use Rattle.coincidence.specs.Steady.{all_of_eight}
@@ -58,10 +58,10 @@ module _ {watches : List PointWatch} {from to end : ℕ} (ends : IsZonesEnd watc
   of_first : (place : ℕ) → from ≤ place → place < end → IsPointInZone watches zone place
   of_first place least small = subst (λ n. IsPointInZone watches n place) same_zone (ends.same place least small)
 
-in_front : (split : ZoneSplit) (k : ℕ) → k < split.front → zone_in split k ≡ split.first
+in_front : (split : ZoneSplit) (k : ℕ) → k < split.front → split_zone split k ≡ split.first
 in_front split k less = ap (λ b. if b then split.first else split.second) (lt_is k split.front less)
 
-behind_front : (split : ZoneSplit) (k : ℕ) → split.front ≤ k → zone_in split k ≡ split.second
+behind_front : (split : ZoneSplit) (k : ℕ) → split.front ≤ k → split_zone split k ≡ split.second
 behind_front split k past = elim (lt_tells k split.front) [
   | inl under ↦ (let less = under.1 in absurd (omega (arith, less, past)))
   | inr above ↦ ap (λ b. if b then split.first else split.second) above.0
@@ -116,8 +116,8 @@ none_told watches first to end stop at ends next early split are =
     let begin : IsPointInZone watches split.first first =
     subst (IsPointInZone watches split.first) start
     (subst (λ n. IsPointInZone watches n (first + 0)) (in_front split 0 (omega (arith, front))) (are.each 0 (omega arith))) in
-    let at_end = subst (IsPointInZone watches (zone_in split (end - first))) here (are.each (end - first) (omega (arith, at, some, more, early))) in
-    let at_stop = subst (IsPointInZone watches (zone_in split (stop - first))) there (are.each (stop - first) (omega (arith, at, some, more, early))) in
+    let at_end = subst (IsPointInZone watches (split_zone split (end - first))) here (are.each (end - first) (omega (arith, at, some, more, early))) in
+    let at_stop = subst (IsPointInZone watches (split_zone split (stop - first))) there (are.each (stop - first) (omega (arith, at, some, more, early))) in
     elim (lt_tells (end - first) split.front) [
       | inl under ↦
           absurd (ends.apart (omega (arith, more, early))
@@ -200,13 +200,13 @@ module _ (watches : List PointWatch) (place : ℕ) (was is : PointWatch) (read :
         some = are.some;
         most = are.most;
         alone = are.alone;
-        each = λ k small. zone_before (zone_in split k) (first + k) (are.each k small);
+        each = λ k small. zone_before (split_zone split k) (first + k) (are.each k small);
       })
   split_kept first (Some split) are = record {
     some = are.some;
     most = are.most;
     alone = are.alone;
-    each = λ k small. zone_kept (zone_in split k) (first + k) (are.each k small);
+    each = λ k small. zone_kept (split_zone split k) (first + k) (are.each k small);
   }
 
   pub splits_kept : (of_eights : List (Option ZoneSplit)) → TellSplits watches of_eights → TellSplits (set watches place is) of_eights
@@ -219,7 +219,7 @@ module _ (decide : Decide) (answers : AnswerGroup) (split : ZoneSplit) (points :
   within_eight : IsWithinEight (all_of_eight answers)
   within_eight = record { places = omega arith; points = points }
 
-  in_zone : (k : ℕ) → k < 8 → IsInZone decide (answer_at answers (0 + k)) (zone_in split k)
+  in_zone : (k : ℕ) → k < 8 → IsInZone decide (answer_at answers (0 + k)) (split_zone split k)
   in_zone k small =
       let there = told.each k small in
       let at = point_of (all_of_eight answers) k within_eight small in
@@ -232,7 +232,7 @@ module _ (decide : Decide) (answers : AnswerGroup) (split : ZoneSplit) (points :
       }
 
   module _ (can : CanTake decide (items_of answer_at (all_of_eight answers))) where
-    has_zone : (k : ℕ) → k < 8 → HasZoneAt decide (zone_in split k)
+    has_zone : (k : ℕ) → k < 8 → HasZoneAt decide (split_zone split k)
     has_zone k small =
         let on = in_zone k small in
         let observed = item_observed decide (all_of_eight answers) k small can in
@@ -245,7 +245,7 @@ module _ (decide : Decide) (answers : AnswerGroup) (split : ZoneSplit) (points :
     pub has_first : HasZoneAt decide split.first
     has_first = let some = told.some in subst (HasZoneAt decide) (in_front split 0 (omega (arith, some))) (has_zone 0 (omega arith))
 
-    last_is : zone_in split 7 ≡ split.second
+    last_is : split_zone split 7 ≡ split.second
     last_is = elim (lt_tells 7 split.front) [
       | inl under ↦ (let less = under.1 in let most = told.most in in_front split 7 less ∙ sym (told.alone (omega (arith, less, most))))
       | inr above ↦ behind_front split 7 above.1
@@ -266,7 +266,7 @@ module _ (decide : Decide) (answers : AnswerGroup) (split : ZoneSplit) (points :
         let marked = going.marked k small is in
         let there = in_zone k small in
         let mask = mask_by (nat_lt k split.front) in
-        confirms_again decide (answer_at answers (0 + k)) (zone_in split k)
+        confirms_again decide (answer_at answers (0 + k)) (split_zone split k)
         (record { alarm = marked.alarm; has = marked.has; watch = there.watch; read = there.read; own = there.own; since = going.since })
         mask.zone mask.read (if nat_lt k split.front then front else back) mask.fits mask.bits
     confirms_by k small false is =

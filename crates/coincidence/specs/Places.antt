@@ -37,15 +37,15 @@ pub record IsPointInZone (watches : List PointWatch) (zone place : ℕ) : Type 0
   pub own : watch.zone ≡ zone
 
 -- the place of the zone in which the point so many places behind the first one stands, of eight that are split so
-abbrev pub zone_in : ZoneSplit → ℕ → ℕ
-zone_in split k = if nat_lt k split.front then split.first else split.second
+abbrev pub split_zone : ZoneSplit → ℕ → ℕ
+split_zone split k = if nat_lt k split.front then split.first else split.second
 
 -- the eight points from a place on are split so
 pub record AreSplit (watches : List PointWatch) (first : ℕ) (split : ZoneSplit) : Type 0 where
   pub some : 1 ≤ split.front
   pub most : split.front ≤ 8
   pub alone : split.front ≡ 8 → split.second ≡ split.first
-  pub each : (k : ℕ) → k < 8 → IsPointInZone watches (zone_in split k) (first + k)
+  pub each : (k : ℕ) → k < 8 → IsPointInZone watches (split_zone split k) (first + k)
 
 -- of the eight points from a place on it is told how they are split, and nothing where no split fits them
 abbrev pub TellsSplit : List PointWatch → ℕ → Option ZoneSplit → Type 0

@@ -10,7 +10,7 @@ use Rattle.answer_lanes.specs.Runs.{items_of}
 use Rattle.coincidence_rules.specs.declared.finding.Finding.{Finding}
 use Rattle.panel_conditions.specs.declared.points.Points.{Points}
 use Rattle.panel_conditions.specs.declared.zones.Zones.{Zones}
-use Rattle.panel_conditions.specs.Changes.{TakesPoints, TakesZones}
+use Rattle.panel_conditions.specs.Changes.{TakesPoints, ZonesTakeAll}
 use Rattle.panel_conditions.specs.Stands.{WatchesPoints, WatchesZones}
 use Rattle.panel_conditions.specs.Told.{AreToldInBlock, AreToldInEight, block_run, eight_run}
 use Rattle.panel_conditions.proofs.Runs.{all_again}
@@ -35,14 +35,14 @@ points_then first second p q r a b = record {
       (before.0, now.1 ∙ before.1);
 }
 
-pub zones_none : (z : Zones) → TakesZones [] z z
+pub zones_none : (z : Zones) → ZonesTakeAll [] z z
 zones_none z = record {
   watches = λ site panel done taken h. subst (λ l. WatchesZones site panel done l z.watches.items) (sym (append-nil taken)) h;
   settled = λ site panel done taken tick h settled. settled;
   moved = refl;
 }
 
-pub zones_then : (first second : List Finding) (x y z : Zones) → TakesZones first x y → TakesZones second y z → TakesZones (first ++ second) x z
+pub zones_then : (first second : List Finding) (x y z : Zones) → ZonesTakeAll first x y → ZonesTakeAll second y z → ZonesTakeAll (first ++ second) x z
 zones_then first second x y z a b = record {
   watches = λ site panel done taken h.
       subst (λ l. WatchesZones site panel done l z.watches.items) (append_assoc taken first second)
@@ -66,11 +66,11 @@ points_by_eights block p q r s t a b c d =
     subst (λ found. TakesPoints found p t) (block_items block)
     (points_then _ _ p s t (points_then _ _ p r s (points_then _ _ p q r a b) c) d)
 
-pub zones_by_eights : (block : FindingBlock) (v w x y z : Zones) → TakesZones (items_of eight_finding_at (eight_run block 0)) v w
-    → TakesZones (items_of eight_finding_at (eight_run block 1)) w x → TakesZones (items_of eight_finding_at (eight_run block 2)) x y
-    → TakesZones (items_of eight_finding_at (eight_run block 3)) y z → TakesZones (items_of block_finding_at (block_run block)) v z
+pub zones_by_eights : (block : FindingBlock) (v w x y z : Zones) → ZonesTakeAll (items_of eight_finding_at (eight_run block 0)) v w
+    → ZonesTakeAll (items_of eight_finding_at (eight_run block 1)) w x → ZonesTakeAll (items_of eight_finding_at (eight_run block 2)) x y
+    → ZonesTakeAll (items_of eight_finding_at (eight_run block 3)) y z → ZonesTakeAll (items_of block_finding_at (block_run block)) v z
 zones_by_eights block v w x y z a b c d =
-    subst (λ found. TakesZones found v z) (block_items block)
+    subst (λ found. ZonesTakeAll found v z) (block_items block)
     (zones_then _ _ v y z (zones_then _ _ v x y (zones_then _ _ v w x a b) c) d)
 
 -- the finding at a place of an eight tells of its point what that of the group does

@@ -7,18 +7,18 @@ use Rattle.site_types.proofs.Masks.{has_bit-and, has_bit-or, has_bit-zero, same_
 use Rattle.tick_units.specs.declared.tick.Tick.{Tick}
 use Rattle.answer_lanes.specs.declared.told.Told.{Told}
 use Rattle.panel_conditions.specs.declared.signs.Signs.{Signs}
-use Rattle.panel_conditions.specs.Parts.{IsPlain, IsShown, TellsPlainly, finding_of, plain_told, told_by}
+use Rattle.panel_conditions.specs.Parts.{IsPlain, IsShown, TellsPlainly, told_finding, plain_told, told_by}
 
 -- what is told plainly is that of the zones confirmed
 pub told_plainly : (told : Told) → IsPlain told → told ≡ plain_told told.confirmed
 told_plainly told plain = rw (plain.counted, plain.released, plain.manual) refl
 
 -- the zones of which is told plainly are those that are confirmed
-pub plain_by : (stamp : Tick) (zones : ℕ) → told_by (finding_of stamp (plain_told zones)) ≡ zones
+pub plain_by : (stamp : Tick) (zones : ℕ) → told_by (told_finding stamp (plain_told zones)) ≡ zones
 plain_by stamp zones =
     ap (λ m. bit_or m zones) (or_zero_r (bit_or zones zones) ∙ or_self zones) ∙ or_self zones
 
-pub plain_at : (stamp : Tick) (zones k : ℕ) → has_bit zones k ≡ true → TellsPlainly k (finding_of stamp (plain_told zones))
+pub plain_at : (stamp : Tick) (zones k : ℕ) → has_bit zones k ≡ true → TellsPlainly k (told_finding stamp (plain_told zones))
 plain_at stamp zones k on = record { counted = on; confirmed = on; released = on; manual = has_bit-zero k }
 
 in_both : (c a r : Bool) → ((c && a) && r) ≡ c → ((c || a) ≡ a) × ((c || r) ≡ r)
@@ -29,7 +29,7 @@ in_both true false r h = absurd (cc)
 
 -- nothing is told plainly but what is shown, where each zone is shown in alarm and released
 pub plain_shown : (stamp : Tick) (zones : ℕ) (signs : Signs) → zones < 2 ^ 32 → signs.alarm < 2 ^ 32 → signs.released < 2 ^ 32
-    → bit_and (bit_and zones signs.alarm) signs.released ≡ zones → IsShown (finding_of stamp (plain_told zones)) signs
+    → bit_and (bit_and zones signs.alarm) signs.released ≡ zones → IsShown (told_finding stamp (plain_told zones)) signs
 plain_shown stamp zones signs below alarm released is = record {
   alarm =
       ap (λ m. bit_or m signs.alarm) (or_self zones)

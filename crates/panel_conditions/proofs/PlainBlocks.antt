@@ -16,8 +16,8 @@ use Rattle.answer_lanes.specs.Blocks.{block_finding_at, eight_finding_at, eight_
 use Rattle.answer_lanes.specs.Points.{finding_at}
 use Rattle.answer_lanes.specs.Runs.{items_of}
 use Rattle.panel_conditions.specs.declared.zones.Zones.{Zones}
-use Rattle.panel_conditions.specs.Changes.{TakesZones, TellSame}
-use Rattle.panel_conditions.specs.Parts.{ArePlain, IsPlainEight, block_confirms, eight_confirms, finding_of, plain_told}
+use Rattle.panel_conditions.specs.Changes.{ZonesTakeAll, TellSame}
+use Rattle.panel_conditions.specs.Parts.{ArePlain, TellsEightPlainly, block_confirms, eight_confirms, told_finding, plain_told}
 use Rattle.panel_conditions.specs.Stands.{latest_stamp}
 use Rattle.panel_conditions.specs.Told.{block_run, eight_run, group_run, others_of, others_telling, own_of, own_telling}
 use Rattle.panel_conditions.proofs.BlockRuns.{block_items, zones_by_eights, zones_then}
@@ -28,7 +28,7 @@ use Rattle.panel_conditions.proofs.Runs.{run_tells, same_as_none, same_then}
 use Rattle.panel_conditions.proofs.ZoneRuns.{group_tells_some, run_of_nothing, zones_same}
 
 -- of no zone is the same told as by no finding
-none_same : (stamp : Tick) → TellSame (finding_of stamp (plain_told 0) ∷ []) []
+none_same : (stamp : Tick) → TellSame (told_finding stamp (plain_told 0) ∷ []) []
 none_same stamp = record {
   confirmed = λ k. off (has_bit 0 k) (has_bit-zero k);
   called = λ k. off (has_bit 0 k) (has_bit-zero k);
@@ -41,7 +41,7 @@ none_same stamp = record {
 
 -- of a group that tells plainly of zones these are told, where any of its findings tells of them
 group_same : (group : FindingGroup) (zones : ℕ) → (0 < group.telling → group_tells group ≡ plain_told zones) → group.telling < 2 ^ 8
-    → TellSame (finding_of group.stamp (plain_told (if group.telling == 0 then 0 else zones)) ∷ []) (items_of finding_at (group_run group))
+    → TellSame (told_finding group.stamp (plain_told (if group.telling == 0 then 0 else zones)) ∷ []) (items_of finding_at (group_run group))
 group_same group zones plain small = elim (eqb_tells group.telling 0) [
   | inl none ↦
       subst (λ z. TellSame (by z) items) (sym (confirms none.0))
@@ -51,7 +51,7 @@ group_same group zones plain small = elim (eqb_tells group.telling 0) [
       (let apart = some.1 in
       let positive : 0 < group.telling = omega (arith, apart) in
       subst (λ z. TellSame (by z) items) (sym (confirms some.0))
-      (subst (λ t. TellSame (finding_of group.stamp t ∷ []) items) (plain positive)
+      (subst (λ t. TellSame (told_finding group.stamp t ∷ []) items) (plain positive)
       (run_tells (group_run group) (group_tells_some group positive small))))
 ]
   where
@@ -59,14 +59,14 @@ group_same group zones plain small = elim (eqb_tells group.telling 0) [
     items = items_of finding_at (group_run group)
 
     by : ℕ → List Finding
-    by zones = finding_of group.stamp (plain_told zones) ∷ []
+    by zones = told_finding group.stamp (plain_told zones) ∷ []
 
     confirms : {b : Bool} → (group.telling == 0) ≡ b → (if group.telling == 0 then 0 else zones) ≡ (if b then 0 else zones)
     confirms e = ap (λ b. if b then 0 else zones) e
 
 -- where findings tell plainly of some zones, and others at the same stamp of others, both tell of both
-both_same : (stamp : Tick) (a b : ℕ) (one other : List Finding) → TellSame (finding_of stamp (plain_told a) ∷ []) one
-    → TellSame (finding_of stamp (plain_told b) ∷ []) other → TellSame (finding_of stamp (plain_told (bit_or a b)) ∷ []) (one ++ other)
+both_same : (stamp : Tick) (a b : ℕ) (one other : List Finding) → TellSame (told_finding stamp (plain_told a) ∷ []) one
+    → TellSame (told_finding stamp (plain_told b) ∷ []) other → TellSame (told_finding stamp (plain_told (bit_or a b)) ∷ []) (one ++ other)
 both_same stamp a b one other x y = record {
   confirmed = λ k. joined (λ f. has_bit f.confirmed k) (has_bit-or a b k) (x.confirmed k) (y.confirmed k);
   called = λ k. joined (λ f. has_bit f.manual k) (twice (has_bit 0 k)) (x.called k) (y.called k);
@@ -76,7 +76,7 @@ both_same stamp a b one other x y = record {
 }
   where
     of : ℕ → Finding
-    of zones = finding_of stamp (plain_told zones)
+    of zones = told_finding stamp (plain_told zones)
 
     twice : (c : Bool) → c ≡ (c || c)
     twice true = refl
@@ -106,8 +106,8 @@ both_same stamp a b one other x y = record {
         ∙ ap (λ n. max n (latest_stamp test (of b ∷ []))) e ∙ ap (max (latest_stamp test one)) g ∙ sym (latest-append test one other)
 
 -- of an eight the zones that it confirms are told, and plainly
-eight_same : (block : FindingBlock) (number : ℕ) → IsPlainEight block number → slice_index block.telling number < 2 ^ 8
-    → TellSame (finding_of block.stamp (plain_told (eight_confirms block number)) ∷ []) (items_of eight_finding_at (eight_run block number))
+eight_same : (block : FindingBlock) (number : ℕ) → TellsEightPlainly block number → slice_index block.telling number < 2 ^ 8
+    → TellSame (told_finding block.stamp (plain_told (eight_confirms block number)) ∷ []) (items_of eight_finding_at (eight_run block number))
 eight_same block number plain small =
     same_then _ _ _
     (both_same block.stamp _ _ _ _
@@ -124,9 +124,9 @@ eight_same block number plain small =
 -- a block tells of the zones that it confirms, and plainly
 pub block_same : (block : FindingBlock) → ArePlain block → slice_index block.telling 0 < 2 ^ 8 → slice_index block.telling 1 < 2 ^ 8
     → slice_index block.telling 2 < 2 ^ 8 → slice_index block.telling 3 < 2 ^ 8
-    → TellSame (finding_of block.stamp (plain_told (block_confirms block)) ∷ []) (items_of block_finding_at (block_run block))
+    → TellSame (told_finding block.stamp (plain_told (block_confirms block)) ∷ []) (items_of block_finding_at (block_run block))
 block_same block plain a b c d =
-    subst (λ l. TellSame (finding_of block.stamp (plain_told (block_confirms block)) ∷ []) l) (block_items block)
+    subst (λ l. TellSame (told_finding block.stamp (plain_told (block_confirms block)) ∷ []) l) (block_items block)
     (both_same block.stamp _ _ _ _ (both_same block.stamp _ _ _ _
     (both_same block.stamp _ _ _ _ (eight_same block 0 plain.0 a) (eight_same block 1 plain.1 b)) (eight_same block 2 plain.2 c))
     (eight_same block 3 plain.3 d))
@@ -134,7 +134,7 @@ block_same block plain a b c d =
 -- a block of which none tells of a zone
 pub block_of_none : (block : FindingBlock) (zones : Zones) →
     let tells = slice_index block.telling in
-    bit_or (bit_or (bit_or (tells 0) (tells 1)) (tells 2)) (tells 3) ≡ 0 → TakesZones (items_of block_finding_at (block_run block)) zones zones
+    bit_or (bit_or (bit_or (tells 0) (tells 1)) (tells 2)) (tells 3) ≡ 0 → ZonesTakeAll (items_of block_finding_at (block_run block)) zones zones
 block_of_none block zones none =
     let tells = slice_index block.telling in
     let two = bit_or (tells 0) (tells 1) in
@@ -152,7 +152,7 @@ block_of_none block zones none =
     (of_none 3 (omega (arith, none, fourth)))
   where
     of_none : (number : ℕ) → slice_index block.telling number ≡ 0
-        → TakesZones (items_of eight_finding_at (eight_run block number)) zones zones
+        → ZonesTakeAll (items_of eight_finding_at (eight_run block number)) zones zones
     of_none number none =
         let eight = eight_found block number in
         let among = and_le_l eight.group.telling eight.others in

@@ -20,7 +20,7 @@ use Rattle.answer_lanes.proofs.Moving.{items_more, range_parts}
 use Rattle.panel_conditions.specs.declared.points.Points.{Points}
 use Rattle.panel_conditions.specs.declared.zone_watch.ZoneWatch.{ZoneWatch}
 use Rattle.panel_conditions.specs.Changes.{TellSame}
-use Rattle.panel_conditions.specs.Parts.{HasTelling, finding_of}
+use Rattle.panel_conditions.specs.Parts.{HasTelling, told_finding}
 use Rattle.panel_conditions.specs.Told.{AreTold}
 use Rattle.panel_conditions.specs.Stands.{WatchesPoints, WatchesZone, WatchesZones, latest_stamp}
 use Rattle.panel_conditions.proofs.Latest.{latest-append}
@@ -165,7 +165,7 @@ same_then one other third a b = record {
 
 -- a finding that tells of zones tells the same as one of no point in particular
 same_at : (group : FindingGroup) (place : ℕ) → has_bit group.telling place ≡ true
-    → TellSame (finding_of group.stamp (group_tells group) ∷ []) (finding_at group place ∷ [])
+    → TellSame (told_finding group.stamp (group_tells group) ∷ []) (finding_at group place ∷ [])
 same_at group place tells = record {
   confirmed = λ k. ap (λ b. latest_stamp (λ f. has_bit f.confirmed k) (at b ∷ [])) (sym tells);
   called = λ k. ap (λ b. latest_stamp (λ f. has_bit f.manual k) (at b ∷ [])) (sym tells);
@@ -185,9 +185,9 @@ same_at group place tells = record {
     }
 
 -- a run of which some tell of zones tells what these do
-pub run_tells : (run : Run FindingGroup) → HasTelling run → TellSame (finding_of run.first.stamp (group_tells run.first) ∷ []) (items_of finding_at run)
+pub run_tells : (run : Run FindingGroup) → HasTelling run → TellSame (told_finding run.first.stamp (group_tells run.first) ∷ []) (items_of finding_at run)
 run_tells run some =
-    same_then (finding_of run.first.stamp (group_tells run.first) ∷ []) (finding_at run.first some.place ∷ []) (items_of finding_at run)
+    same_then (told_finding run.first.stamp (group_tells run.first) ∷ []) (finding_at run.first some.place ∷ []) (items_of finding_at run)
     (same_at run.first some.place some.tells)
     (same_as_one run.first run.taken run.count some.place some.from some.below some.tells)
 

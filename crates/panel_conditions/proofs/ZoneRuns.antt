@@ -12,7 +12,7 @@ use Rattle.site_types.specs.Bits.{has_bit}
 use Rattle.panel_conditions.specs.declared.zones.Zones.{Zones}
 use Rattle.panel_conditions.specs.Parts.{HasTelling, IsShown, Marks, told_by}
 use Rattle.panel_conditions.specs.Stands.{WatchesZones, ZonesTake}
-use Rattle.panel_conditions.specs.Changes.{TakesTold, TakesZones, TellSame}
+use Rattle.panel_conditions.specs.Changes.{TakesTold, ZonesTakeAll, TellSame}
 use Rattle.panel_conditions.specs.Told.{group_run}
 use Rattle.panel_conditions.proofs.NextBit.{IsNext, next_from}
 use Rattle.panel_conditions.proofs.AlreadyShown.{settled_taken}
@@ -21,7 +21,7 @@ use Rattle.panel_conditions.proofs.Watched.{are_numbered, zones_more}
 
 -- a run of which none tells
 pub run_of_none : (run : Run FindingGroup) (zones : Zones) → ((k : ℕ) → k < run.count → has_bit run.first.telling (run.taken + k) ≡ false)
-    → TakesZones (items_of finding_at run) zones zones
+    → ZonesTakeAll (items_of finding_at run) zones zones
 run_of_none run zones none = record {
   watches = λ site panel done taken h. taken_by_none site panel done taken run zones.watches.items none h;
   settled = λ site panel done taken tick h settled. settled;
@@ -29,7 +29,7 @@ run_of_none run zones none = record {
 }
 
 -- a run whose group tells of no zone
-pub run_of_nothing : (run : Run FindingGroup) (zones : Zones) → run.first.telling ≡ 0 → TakesZones (items_of finding_at run) zones zones
+pub run_of_nothing : (run : Run FindingGroup) (zones : Zones) → run.first.telling ≡ 0 → ZonesTakeAll (items_of finding_at run) zones zones
 run_of_nothing run zones none = record {
   watches = λ site panel done taken h. taken_by_nothing site panel done taken run zones.watches.items none h;
   settled = λ site panel done taken tick h settled. settled;
@@ -65,7 +65,7 @@ group_tells_some group some small = record {
     beyond far = sym (has_bit-above 8 mask place small far) ∙ next.set
 
 -- zones that take findings take any others that tell the same
-pub zones_same : (one other : List Finding) (old zones : Zones) → TellSame one other → TakesZones one old zones → TakesZones other old zones
+pub zones_same : (one other : List Finding) (old zones : Zones) → TellSame one other → ZonesTakeAll one old zones → ZonesTakeAll other old zones
 zones_same one other old zones same took = record {
   watches = λ site panel done taken h.
       zones_as site panel done taken one other zones.watches.items same (took.watches site panel done taken h);

@@ -80,7 +80,7 @@ pub record TakesPoints (findings : List Finding) (old points : Points) : Type 0 
   pub missing : points.changed ≡ false → (old.changed ≡ false) × (points.missing ≡ old.missing)
 
 -- by zones, these findings are taken after those before
-pub record TakesZones (findings : List Finding) (old zones : Zones) : Type 0 where
+pub record ZonesTakeAll (findings : List Finding) (old zones : Zones) : Type 0 where
   pub watches : WatchesZonesMore old findings zones
   pub settled : ZonesStaySettled old zones
   pub moved : zones.moved ≡ old.moved
@@ -99,12 +99,12 @@ pub record TellSame (one other : List Finding) : Type 0 where
 -- by zones, any findings are taken that tell of zones what this one does
 abbrev pub TakesTold : Finding → Zones → Zones → Type 0
 TakesTold finding old zones =
-    (findings : List Finding) → TellSame (finding ∷ []) findings → TakesZones findings old zones
+    (findings : List Finding) → TellSame (finding ∷ []) findings → ZonesTakeAll findings old zones
 
 -- by points and by zones, these findings are taken after those before
 pub record BothTake (findings : List Finding) (first last : Points) (old new' : Zones) : Type 0 where
   pub points : TakesPoints findings first last
-  pub zones : TakesZones findings old new'
+  pub zones : ZonesTakeAll findings old new'
 
 -- in all that is kept, zones that were settled stay so, whatever findings they tell of
 abbrev pub StaysSettled : Hold → Hold → Type 0

@@ -114,14 +114,14 @@ pub record IsPlain (told : Told) : Type 0 where
   pub manual : told.manual ≡ 0
 
 -- one of a block's eights tells of the zones of its group plainly, where it tells of any
-abbrev pub IsPlainEight : FindingBlock → ℕ → Type 0
-IsPlainEight block number =
+abbrev pub TellsEightPlainly : FindingBlock → ℕ → Type 0
+TellsEightPlainly block number =
     0 < own_telling (eight_found block number) → IsPlain (slice_index_or block.told number none_told)
 
 -- all eights of a block do
 abbrev pub ArePlain : FindingBlock → Type 0
 ArePlain block =
-    IsPlainEight block 0 × IsPlainEight block 1 × IsPlainEight block 2 × IsPlainEight block 3
+    TellsEightPlainly block 0 × TellsEightPlainly block 1 × TellsEightPlainly block 2 × TellsEightPlainly block 3
 
 -- the zones that one of a block's eights confirms: those of its group and the other ones, if any finding tells of them
 abbrev pub eight_confirms : FindingBlock → ℕ → ℕ
@@ -137,8 +137,8 @@ block_confirms block =
     (eight_confirms block 3)
 
 -- what findings to an asking tell of zones, as a finding of no point in particular
-abbrev pub finding_of : Tick → Told → Finding
-finding_of stamp told = record {
+abbrev pub told_finding : Tick → Told → Finding
+told_finding stamp told = record {
   stamp = stamp;
   point = 0;
   counted = told.counted;

@@ -3,8 +3,8 @@
 ghost use Rattle.std.specs.Prelude.{◌≡◌, ◌↔◌, ◌+◌, ◌<◌, ◌≤◌, ℕ, IfSome, None, false, true};
 ghost use Rattle.site_types.specs.Bits.{has_bit};
 ghost use Rattle.answer_lanes.specs.Runs.{HasShortCount};
-ghost use Rattle.panel_conditions.specs.Parts.{ArePlain, HasTelling, IsPlain, IsPlainEight, IsShown};
-ghost use Rattle.panel_conditions.specs.Parts.{block_confirms, eight_confirms, finding_of as telling, told_by};
+ghost use Rattle.panel_conditions.specs.Parts.{ArePlain, HasTelling, IsPlain, TellsEightPlainly, IsShown};
+ghost use Rattle.panel_conditions.specs.Parts.{block_confirms, eight_confirms, told_finding as telling, told_by};
 ghost use Rattle.panel_conditions.specs.Told.{group_run, others_of, own_of};
 
 use crate::next_bit::lowest_bit;
@@ -14,7 +14,7 @@ use coincidence_rules::Finding;
 use tick_units::Tick;
 
 /// What findings to an asking tell of zones, as a finding of no point in particular.
-pub fn finding_of(stamp: Tick, told: &Told) -> Finding
+pub fn told_finding(stamp: Tick, told: &Told) -> Finding
     ensures { result ≡ telling stamp told.now }
 {
     Finding {
@@ -53,9 +53,9 @@ pub fn plain_zones(block: &FindingBlock) -> Option<u32>
 #[inline(always)]
 fn plain_in(block: &FindingBlock, number: u8) -> Option<u32>
     requires { number < 4 }
-    ensures plain { IfSome result (λ zones. IsPlainEight block.now number
+    ensures plain { IfSome result (λ zones. TellsEightPlainly block.now number
         × (zones ≡ eight_confirms block.now number)) }
-    ensures other { result ≡ None → ¬ IsPlainEight block.now number }
+    ensures other { result ≡ None → ¬ TellsEightPlainly block.now number }
 {
     let place = number as usize;
     let telling = block.telling[place];

@@ -9,7 +9,7 @@ use crate::next_bit::lowest_bit;
 use crate::sign::Sign;
 use crate::signs::Signs;
 use crate::told_zones::{
-    finding_of, is_plain, is_shown, of_other_zones, of_own_zones, plain_zones, tells_any, told,
+    told_finding, is_plain, is_shown, of_other_zones, of_own_zones, plain_zones, tells_any, told,
 };
 use crate::zone_watch::ZoneWatch;
 use answer_lanes::{FindingBlock, FindingGroup, Run, Told};
@@ -35,8 +35,8 @@ pub struct Zones {
 
 impl Zones {
     ghost use Rattle.panel_conditions.specs.Parts.{drawn_mask, later_tick, signs_at, told_by, watch_shows, zone_done};
-    ghost use Rattle.panel_conditions.specs.Parts.{Marks, TellsPlainly, finding_of, plain_told, zone_taken_at};
-    ghost use Rattle.panel_conditions.specs.Changes.{TakesTold, TakesZones, WatchesZonesMore, ZonesStaySettled};
+    ghost use Rattle.panel_conditions.specs.Parts.{Marks, TellsPlainly, told_finding, plain_told, zone_taken_at};
+    ghost use Rattle.panel_conditions.specs.Changes.{TakesTold, ZonesTakeAll, WatchesZonesMore, ZonesStaySettled};
     ghost use Rattle.panel_conditions.specs.Stands.{Settled, ZonesTake, first_watch, are_first_watches};
     ghost use Rattle.panel_conditions.specs.Told.{block_run, eight_run};
 
@@ -83,7 +83,7 @@ impl Zones {
     /// Takes note of the findings of a whole block, where any tells of zones. All have one stamp, so what its eights
     /// tell plainly is taken at once.
     pub fn take_block(&mut self, block: &FindingBlock)
-        ensures { TakesZones (items_of block_finding_at (block_run block.now)) self.old self.new }
+        ensures { ZonesTakeAll (items_of block_finding_at (block_run block.now)) self.old self.new }
     {
         let [first, second, third, fourth] = block.telling;
         if first | second | third | fourth == 0 {
@@ -99,7 +99,7 @@ impl Zones {
     // that this need not share registers with it.
     #[inline(never)]
     fn take_eights(&mut self, block: &FindingBlock)
-        ensures { TakesZones (items_of block_finding_at (block_run block.now)) self.old self.new }
+        ensures { ZonesTakeAll (items_of block_finding_at (block_run block.now)) self.old self.new }
     {
         self.take_eight(block, 0);
         self.take_eight(block, 1);
@@ -109,7 +109,7 @@ impl Zones {
 
     // Takes note of the findings of one of a block's eights: first of its own zones, then of the other ones.
     fn take_eight(&mut self, block: &FindingBlock, number: u8)
-        ensures { TakesZones (items_of eight_finding_at (eight_run block.now number)) self.old
+        ensures { ZonesTakeAll (items_of eight_finding_at (eight_run block.now number)) self.old
             self.new }
     {
         let eight = block.eight(number);
@@ -119,12 +119,12 @@ impl Zones {
 
     // Takes note of what findings to an asking tell of zones.
     fn take_told(&mut self, stamp: Tick, told: &Told)
-        ensures { TakesTold (finding_of stamp told.now) self.old self.new }
+        ensures { TakesTold (told_finding stamp told.now) self.old self.new }
     {
         if is_plain(told) {
             self.take_plainly(stamp, told.confirmed);
         } else {
-            self.take_all(&finding_of(stamp, told));
+            self.take_all(&told_finding(stamp, told));
         }
     }
 
@@ -140,7 +140,7 @@ impl Zones {
     // Takes note of findings of a stamp that confirm zones plainly.
     #[inline(never)]
     fn take_plainly(&mut self, stamp: Tick, zones: u32)
-        ensures { TakesTold (finding_of stamp (plain_told zones)) self.old self.new }
+        ensures { TakesTold (told_finding stamp (plain_told zones)) self.old self.new }
     {
         self.take_plain(stamp, zones);
         self.mark_plain(zones);
@@ -148,7 +148,7 @@ impl Zones {
 
     // Takes note of findings of a stamp in each zone that they confirm plainly.
     fn take_plain(&mut self, stamp: Tick, zones: u32)
-        ensures { ZonesTake (finding_of stamp (plain_told zones)) self.old self.new }
+        ensures { ZonesTake (told_finding stamp (plain_told zones)) self.old self.new }
     {
         let mut left = zones;
         while left != 0 {
@@ -173,7 +173,7 @@ impl Zones {
     // Marks zones that findings confirm plainly, where any of them isn't shown both in alarm and released.
     fn mark_plain(&mut self, zones: u32)
         ensures marks { (stamp : Tick)
-            → Marks (finding_of stamp (plain_told zones)) self.old self.new }
+            → Marks (told_finding stamp (plain_told zones)) self.old self.new }
         ensures rest { (self.new.watches ≡ self.old.watches) × (self.new.signs ≡ self.old.signs)
             × (self.new.moved ≡ self.old.moved) }
     {

@@ -1,5 +1,5 @@
 use Rattle.std.proofs.Common.{◌∙◌, slice_get, refl, ap, arith}
-use Rattle.panel_conditions.specs.Parts.{finding_of, plain_told}
+use Rattle.panel_conditions.specs.Parts.{told_finding, plain_told}
 use Rattle.panel_conditions.proofs.Drawn.{taken_but, taken_not_yet, taken_more, taken_by_all}
 use Rattle.panel_conditions.proofs.NextBit.{cleared_smaller, fewer_bits, others_stay}
 use Rattle.panel_conditions.proofs.Plain.{plain_at, plain_by}
@@ -10,8 +10,8 @@ loop-left-init c = record {
   among = λ i is. is;
   fits = omega arith;
   watches = λ numbered j.
-      taken_not_yet (finding_of c.args.stamp (plain_told c.args.zones)) j (slice_get c.args.self.now.watches.items j) (numbered j)
-      ∙ ap (λ m. taken_but m j (finding_of c.args.stamp (plain_told c.args.zones)) (slice_get c.args.self.now.watches.items j)) (plain_by c.args.stamp c.args.zones);
+      taken_not_yet (told_finding c.args.stamp (plain_told c.args.zones)) j (slice_get c.args.self.now.watches.items j) (numbered j)
+      ∙ ap (λ m. taken_but m j (told_finding c.args.stamp (plain_told c.args.zones)) (slice_get c.args.self.now.watches.items j)) (plain_by c.args.stamp c.args.zones);
   count = refl;
   changed = refl;
   signs = refl;
@@ -23,7 +23,7 @@ loop-left-preserved c =
     let h = c.loop-left.invariant in
     let next = c.with_bit_32-left in
     let k = c.lowest_bit-k.result in
-    let finding = finding_of c.args.stamp (plain_told c.args.zones) in
+    let finding = told_finding c.args.stamp (plain_told c.args.zones) in
     record {
       among = λ i is. h.among i (fewer_bits c.loop-left.left next.result k h.fits next.type_inv next.ensures.others next.ensures.this i is);
       fits = next.type_inv;
@@ -49,7 +49,7 @@ pub returns : goal.returns
 returns c = record {
   watches = λ numbered k.
       c.loop-left.invariant.watches numbered k
-      ∙ taken_by_all (finding_of c.args.stamp (plain_told c.args.zones)) c.loop-left.left k (slice_get c.args.self.now.watches.items k) c.loop-left-test.false;
+      ∙ taken_by_all (told_finding c.args.stamp (plain_told c.args.zones)) c.loop-left.left k (slice_get c.args.self.now.watches.items k) c.loop-left-test.false;
   count = c.loop-left.invariant.count;
   changed = c.loop-left.invariant.changed;
   signs = c.loop-left.invariant.signs;
