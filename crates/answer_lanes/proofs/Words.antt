@@ -18,6 +18,7 @@ bits_joined a b c d word fa fb fc is = bits
   where
     nested : word ≡ ((d * 256 + c) * 256 + b) * 256 + a
     nested = is ∙ omega arith
+
     bits : AreBitsOf (a ∷ b ∷ c ∷ d ∷ []) word
     bits zero k below small =
         let at : 0 + k ≡ k = omega arith in

@@ -73,9 +73,24 @@ impl FindingBlock {
         FindingBlock {
             stamp: a.group.stamp,
             firsts: [a.group.point, b.group.point, c.group.point, d.group.point],
-            missing: [a.group.missing, b.group.missing, c.group.missing, d.group.missing],
-            telling: [a.group.telling, b.group.telling, c.group.telling, d.group.telling],
-            told: [told_in(&a.group), told_in(&b.group), told_in(&c.group), told_in(&d.group)],
+            missing: [
+                a.group.missing,
+                b.group.missing,
+                c.group.missing,
+                d.group.missing,
+            ],
+            telling: [
+                a.group.telling,
+                b.group.telling,
+                c.group.telling,
+                d.group.telling,
+            ],
+            told: [
+                told_in(&a.group),
+                told_in(&b.group),
+                told_in(&c.group),
+                told_in(&d.group),
+            ],
             others: [a.others, b.others, c.others, d.others],
             other_zones: [a.other_zones, b.other_zones, c.other_zones, d.other_zones],
         }
@@ -109,7 +124,12 @@ impl From<FindingGroup> for FindingBlock {
             firsts: [group.point, 0, 0, 0],
             missing: [group.missing, 0, 0, 0],
             telling: [group.telling, 0, 0, 0],
-            told: [told_in(&group), Told::default(), Told::default(), Told::default()],
+            told: [
+                told_in(&group),
+                Told::default(),
+                Told::default(),
+                Told::default(),
+            ],
             others: [0; 4],
             other_zones: [0; 4],
         }

@@ -4,7 +4,7 @@ ghost use Rattle.answer_lanes.specs.Runs.{HasShortCount, front_of, items_of, res
 use crate::several::Several;
 use arrayvec::ArrayVec;
 
-/// Items of points whose places follow one another.
+/// Items of points that stand in the order of a group or of a block.
 #[derive(Clone, Copy, Debug, Default)]
 pub struct Run<S: Copy> {
     /// What tells each item, by its place behind the first one.
