@@ -1,14 +1,15 @@
 //! The lanes that join Poll, Decide and Hold: queues whose items stand in runs.
 //!
-//! A [`Run`] holds items of some points. Those of an asking stand in one run where they can: the answers of four eights
-//! of points as an [`AnswerBlock`], the findings on them as a [`FindingBlock`], with masks that tell which points are in
-//! alarm, silent or missing. One of the eights is an [`AnswerGroup`], and of findings a [`FindingEight`]: a
-//! [`FindingGroup`], whose findings tell the same of zones, but for some that may tell of other zones. So a turn looks at
-//! what is new, and not at each point. Contracts see a [`Lane`] as the list of its items, the oldest first, however they
-//! stand in runs. [`Run::one`] is an item by itself.
+//! A [`Run`] holds items of some points. Those of an asking stand in one run where they can: the answers of four
+//! eights of points as an [`AnswerBlock`], the findings on them as a [`FindingBlock`], with masks that tell which
+//! points are in alarm, silent or missing. One of the eights is an [`AnswerGroup`], and of findings a
+//! [`FindingEight`]: a [`FindingGroup`], whose findings tell the same of zones, but for some that may tell of other
+//! zones. So a turn looks at what is new, and not at each point. Contracts see a [`Lane`] as the list of its items,
+//! the oldest first, however they stand in runs. [`Run::one`] is an item by itself.
 //!
-//! A [`PlaceSet`] tells of eight places at once, or of four times eight, whether each is one of some: of the points that
-//! rest, that are missing or that are in alarm. [`joined`] and [`parted`] make one word of four bytes and take it apart.
+//! A [`PlaceSet`] tells of eight places at once, or of four times eight, whether each is one of some: of the points
+//! that rest, that are missing or that are in alarm. [`joined`] and [`parted`] make one word of four bytes and take
+//! it apart.
 //!
 //! Only [`Lane::new`] and [`PlaceSet::first`] take memory.
 #![tactic(auto)]
