@@ -9,7 +9,7 @@ use crate::next_bit::lowest_bit;
 use crate::sign::Sign;
 use crate::signs::Signs;
 use crate::told_zones::{
-    told_finding, is_plain, is_shown, of_other_zones, of_own_zones, plain_zones, tells_any, told,
+    is_plain, is_shown, of_other_zones, of_own_zones, plain_zones, tells_any, told, told_finding,
 };
 use crate::zone_watch::ZoneWatch;
 use answer_lanes::{FindingBlock, FindingGroup, Run, Told};

@@ -1,4 +1,4 @@
-use Rattle.std.proofs.Common.{sym, ap, subst}
+use Rattle.std.proofs.Common.{sym, subst}
 use Rattle.answer_lanes.specs.Words.{AreBitsOf}
 use Rattle.answer_lanes.proofs.Words.{bits_parted}
 use Rattle.answer_lanes.proofs.eight_words.parted.Goals as goal
