@@ -155,6 +155,11 @@ panel_at site kept before system panel parts h one is =
 pub panels_counted : (xs ys : List Parts) (x : Parts) (n : ℕ) → ys ≡ xs ++ x ∷ [] → length xs ≡ n → length ys ≡ n + 1
 panels_counted xs ys x n e l = let m = ap length e ∙ length-append xs (x ∷ []) in omega (arith, m, l)
 
+-- all that is in a list of one
+only_one : {A : Type 0} (x y : A) (k : ℕ) → slice_get (x ∷ []) k ≡ Some y → (k ≡ 0) × (x ≡ y)
+only_one x y zero is = (refl, cc)
+only_one x y (suc k) is = absurd (cc)
+
 pub panel_added : (site : Site) (kept : Retained) (xs ys : List Parts) (x : Parts) (n : ℕ) → ys ≡ xs ++ x ∷ [] → length xs ≡ n
     → ((place : ℕ) (parts : Parts) → slice_get xs place ≡ Some parts → StandsInRing site kept [] (place + 1) [] parts)
     → StandsInRing site kept [] (n + 1) [] x → (place : ℕ) (parts : Parts) → slice_get ys place ≡ Some parts → StandsInRing site kept [] (place + 1) [] parts
@@ -165,8 +170,8 @@ panel_added site kept xs ys x n e l each new place parts is =
     ]
   where
     last : (k : ℕ) → place ≡ k + length xs → slice_get (x ∷ []) k ≡ Some parts → StandsInRing site kept [] (place + 1) [] parts
-    last zero far h =
-        let same : x ≡ parts = cc in
-        let at : n + 1 ≡ place + 1 = omega (arith, far, l) in
-        subst (λ m. StandsInRing site kept [] m [] parts) at (subst (StandsInRing site kept [] (n + 1) []) same new)
-    last (suc k) far h = cc
+    last k far h =
+        let only = only_one x parts k h in
+        let first = only.0 in
+        let at : n + 1 ≡ place + 1 = omega (arith, far, l, first) in
+        subst (λ m. StandsInRing site kept [] m [] parts) at (subst (StandsInRing site kept [] (n + 1) []) only.1 new)

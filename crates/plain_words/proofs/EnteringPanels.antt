@@ -18,6 +18,13 @@ drop_at xs k d small = let next : suc k ≡ k + 1 = omega arith in drop-cons xs 
 drop_past : {X : Type 0} (xs : List X) (k : ℕ) (y : X) → drop (k + 1) (set xs k y) ≡ drop (k + 1) xs
 drop_past xs k y = let less : k < k + 1 = omega arith in drop-set-lt (k + 1) xs k y less
 
+-- at the first place of a list stands its first one, and at a place of an empty list none
+first_there : {X : Type 0} (y x : X) (xs : List X) → slice_get (y ∷ xs) zero ≡ Some x → y ≡ x
+first_there y x xs at = cc
+
+none_there : {X : Type 0} (x : X) (k : ℕ) → slice_get [] k ≡ Some x → ⊥
+none_there x k at = cc
+
 module _ (site : Site) where
   pub ask_at : (xs : List Entering) (k : ℕ) (d : Entering) → k < length xs → AllAsk site (drop k xs)
       → EntersSome site (get_or xs k d) × AllAsk site (drop (k + 1) xs)
@@ -70,11 +77,11 @@ module _ (site : Site) (kept : Retained) (done : List Done) where
   -- one of the panels
   pub enter_at : (history : List Moment) (first k : ℕ) (xs : List Entering) (x : Entering) → slice_get xs k ≡ Some x
       → AllEnter site kept done history first xs → StandsForEntering site kept done (first + k) history x
-  enter_at history first k [] x at all = cc
+  enter_at history first k [] x at all = absurd (none_there x k at)
   enter_at history first zero (y ∷ xs) x at all =
-      let same : y ≡ x = cc in
       let here : first ≡ first + 0 = omega arith in
-      subst (λ n. StandsForEntering site kept done n history x) here (subst (λ e. StandsForEntering site kept done first history e) same (all.0))
+      subst (λ n. StandsForEntering site kept done n history x) here
+      (subst (λ e. StandsForEntering site kept done first history e) (first_there y x xs at) (all.0))
   enter_at history first (suc k) (y ∷ xs) x at all =
       let next : (first + 1) + k ≡ first + suc k = omega arith in
       subst (λ n. StandsForEntering site kept done n history x) next (enter_at history (first + 1) k xs x at (all.1))
