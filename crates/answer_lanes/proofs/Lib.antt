@@ -1,6 +1,7 @@
 -- bits: which answers of a group are alarms, silent or quiet, and which places are in a set
 pub mod MaskBits
 pub mod PlaceSets
+pub mod KnownBlocks
 -- the list of a run's items, and one finding more in a group or behind a run
 pub mod Expanded
 pub mod Blocks

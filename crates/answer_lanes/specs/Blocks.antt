@@ -1,5 +1,6 @@
 -- Blocks of four eights of points, asked in one tick.
-use Rattle.std.specs.Prelude.{◌≡◌, ◌/◌, ◌%◌, [], ◌∷◌, ℕ, All, List, if◌then◌else◌, slice_index, slice_index_or}
+use Rattle.std.specs.Prelude.{◌≡◌, ◌≤◌, ◌/◌, ◌%◌, [], ◌∷◌, ℕ, All, List, if◌then◌else◌, slice_index, slice_index_or}
+use Rattle.tick_units.specs.declared.tick.Tick.{Tick}
 use Rattle.site_types.specs.Bits.{has_bit}
 use Rattle.site_types.specs.declared.answer.Answer.{Answer}
 use Rattle.coincidence_rules.specs.declared.finding.Finding.{Finding}
@@ -19,6 +20,11 @@ eight_of block number = record {
   alarms = slice_index block.alarms number;
   silents = slice_index block.silents number;
 }
+
+-- a block has nothing in the eights behind the first one
+abbrev pub HasFirstAlone : AnswerBlock → Type 0
+HasFirstAlone block =
+    (number : ℕ) → 1 ≤ number → eight_of block number ≡ record { stamp = block.stamp; point = 0; alarms = 0; silents = 0 }
 
 -- the answer at a place of a block, eight for each eight
 abbrev pub block_answer_at : AnswerBlock → ℕ → Answer
@@ -82,6 +88,23 @@ eight_found block number =
       others = slice_index block.others number;
       other_zones = slice_index block.other_zones number;
     }
+
+-- a group of which nothing was found
+abbrev pub nothing_found : Tick → FindingGroup
+nothing_found stamp = record {
+  stamp = stamp;
+  point = 0;
+  missing = 0;
+  telling = 0;
+  counted = 0;
+  confirmed = 0;
+  manual = 0;
+  released = 0;
+}
+
+-- a block has no findings in the eights behind the first one
+abbrev pub HasFirstFound : FindingBlock → Type 0
+HasFirstFound block = (number : ℕ) → 1 ≤ number → eight_found block number ≡ eight_of_group (nothing_found block.stamp)
 
 -- the finding at a place of a block, eight for each eight
 abbrev pub block_finding_at : FindingBlock → ℕ → Finding

@@ -4,5 +4,7 @@ pub mod Runs
 pub mod Queues
 pub mod Moves
 pub mod Groups
+pub mod Known
+pub mod PanelBlocks
 pub mod Places
 pub mod Words

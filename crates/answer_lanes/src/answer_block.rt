@@ -1,5 +1,5 @@
 ghost use Rattle.std.specs.Prelude.{◌≡◌};
-ghost use Rattle.answer_lanes.specs.Blocks.{block_answer_at, eight_of};
+ghost use Rattle.answer_lanes.specs.Blocks.{HasFirstAlone, block_answer_at, eight_of};
 
 use crate::answer_group::AnswerGroup;
 use crate::several::Several;
@@ -41,9 +41,10 @@ impl AnswerBlock {
 }
 
 impl From<AnswerGroup> for AnswerBlock {
-    /// The answers of one eight.
+    /// The answers of one eight, the first one. The others have nothing.
     fn from(group: AnswerGroup) -> AnswerBlock
-        ensures { eight_of result 0 ≡ group }
+        ensures first { eight_of result 0 ≡ group }
+        ensures others { HasFirstAlone result }
     {
         AnswerBlock {
             stamp: group.stamp,

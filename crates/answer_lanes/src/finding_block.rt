@@ -113,11 +113,12 @@ fn told_in(group: &FindingGroup) -> Told
 }
 
 impl From<FindingGroup> for FindingBlock {
-    ghost use Rattle.answer_lanes.specs.Blocks.{eight_of_group};
+    ghost use Rattle.answer_lanes.specs.Blocks.{HasFirstFound, eight_of_group};
 
-    /// The findings of one eight.
+    /// The findings of one eight, the first one. The others have nothing.
     fn from(group: FindingGroup) -> FindingBlock
-        ensures { eight_found result 0 ≡ eight_of_group group }
+        ensures first { eight_found result 0 ≡ eight_of_group group }
+        ensures others { HasFirstFound result }
     {
         FindingBlock {
             stamp: group.stamp,

@@ -16,14 +16,18 @@
 
 mod answer_block;
 mod answer_group;
+mod block_places;
+mod block_set;
 mod eight_words;
 mod expanding;
 mod finding_block;
 mod finding_eight;
 mod finding_group;
 mod finding_run;
+mod known_block;
 mod lane;
 mod mask_bits;
+mod panel_blocks;
 mod place_set;
 mod run;
 mod run_queue;
@@ -33,12 +37,14 @@ mod whole;
 
 pub use answer_block::AnswerBlock;
 pub use answer_group::AnswerGroup;
+pub use block_set::BlockSet;
 pub use eight_words::{joined, parted};
 pub use expanding::take_items;
 pub use finding_block::FindingBlock;
 pub use finding_eight::FindingEight;
 pub use finding_group::FindingGroup;
 pub use lane::Lane;
+pub use panel_blocks::blocks_of_panel;
 pub use place_set::PlaceSet;
 pub use run::Run;
 pub use several::Several;

@@ -10,7 +10,7 @@ use crate::point_watches::PointWatches;
 use crate::rules::{counts_unless, is_on, may_pair, plain_finding};
 use crate::watches::watch_zones;
 use crate::zone_watch::ZoneWatch;
-use answer_lanes::{AnswerBlock, FindingBlock, Lane, PlaceSet};
+use answer_lanes::{AnswerBlock, BlockSet, FindingBlock, Lane, blocks_of_panel};
 use arrayvec::ArrayVec;
 use coincidence_rules::Finding;
 use site_types::{Answer, Heard, Item, Operation, Retained, Site, has_bit_8};
@@ -33,7 +33,7 @@ pub struct Decide {
     /// The last reset of the panel.
     pub(crate) reset: LastDone,
     /// The marked points: their alarms count and change nothing of what is kept.
-    pub(crate) going_on: PlaceSet,
+    pub(crate) going_on: BlockSet,
     /// The latest tick in which one was marked: nothing is said of alarms of earlier ticks.
     pub(crate) since: Tick,
 }
@@ -56,9 +56,10 @@ impl Decide {
         requires { IsValid site.now }
         ensures { IfOk result (λ decide. DecidesFor site.now kept.now panel [] [] decide) }
     {
-        let points = PointWatches::new(alloc, site.points.as_slice(), kept)?;
+        let blocks = blocks_of_panel(alloc, site.points.as_slice(), panel)?;
+        let points = PointWatches::new(alloc, site.points.as_slice(), kept, blocks.as_slice())?;
         let zones = watch_zones(alloc, site.zones.as_slice(), kept)?;
-        let going_on = PlaceSet::first(alloc, site.points.len(), false)?;
+        let going_on = BlockSet::first(alloc, site.points.len(), false, blocks.as_slice())?;
         Ok(Decide {
             panel,
             points,

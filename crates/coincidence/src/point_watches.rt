@@ -6,7 +6,7 @@ use crate::point_watch::PointWatch;
 use crate::watches::watch_points;
 use crate::zone_eights::splits_of_eights;
 use crate::zone_split::ZoneSplit;
-use answer_lanes::PlaceSet;
+use answer_lanes::BlockSet;
 use site_types::{Heard, Point, Retained};
 use std::alloc::Global;
 use std::marker::Model;
@@ -18,9 +18,9 @@ use tick_units::{NoMemory, Tick};
 pub struct PointWatches {
     watches: Vec<PointWatch>,
     /// Those that a quiet answer leaves as they are.
-    resting: PlaceSet,
+    resting: BlockSet,
     /// Those that a silent answer leaves as they are.
-    missing: PlaceSet,
+    missing: BlockSet,
     /// By place, how the eight points from it on stand in zones, if in no more than two that follow one another.
     of_eights: Vec<Option<ZoneSplit>>,
 }
@@ -48,14 +48,19 @@ impl PointWatches {
     ghost use Rattle.coincidence.specs.Places.{TellsEight, TellsEights, TellsSplit};
 
     /// What is kept of some points at the start.
-    pub fn new(alloc: Global, points: &[Point], kept: &Retained) -> Result<PointWatches, NoMemory>
+    pub fn new(
+        alloc: Global,
+        points: &[Point],
+        kept: &Retained,
+        blocks: &[[u16; 4]],
+    ) -> Result<PointWatches, NoMemory>
         requires { (k : ℕ) (point : PointPlan) → slice_get points.now k ≡ Some point
             → IsPanelNumber point.panel × IsPlace point.line point.address }
         ensures { IfOk result (λ watches. watches ≡ map (point_from kept.now) points.now) }
     {
         let watches = watch_points(alloc, points, kept)?;
-        let resting = PlaceSet::first(alloc, watches.len(), true)?;
-        let missing = PlaceSet::first(alloc, watches.len(), false)?;
+        let resting = BlockSet::first(alloc, watches.len(), true, blocks)?;
+        let missing = BlockSet::first(alloc, watches.len(), false, blocks)?;
         let of_eights = splits_of_eights(alloc, watches.as_slice())?;
         Ok(PointWatches {
             watches,
@@ -165,7 +170,7 @@ ghost use Rattle.std.specs.Prelude.{◌*◌};
 ghost use Rattle.answer_lanes.specs.Places.{SetsPlace, has_place};
 
 // Puts a place into a set or takes it out, which was in it or not.
-fn mark(set: &mut PlaceSet, place: usize, was: bool, is: bool)
+fn mark(set: &mut BlockSet, place: usize, was: bool, is: bool)
     requires within { place < 8 * length set.old.bytes.items }
     requires was { has_place set.old place ≡ was }
     ensures { SetsPlace place is set.old set.new }

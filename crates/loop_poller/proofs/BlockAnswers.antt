@@ -1,5 +1,5 @@
 -- The answers of blocks are those of their groups.
-use Rattle.std.proofs.Common.{◌≡◌, ℕ, ◌+◌, ◌<◌, ◌≤◌, List, [], ◌∷◌, ◌++◌, length, slice_index_or, refl, sym, ◌∙◌, ap, arith}
+use Rattle.std.proofs.Common.{◌≡◌, ℕ, ◌+◌, ◌<◌, ◌≤◌, List, [], ◌∷◌, ◌++◌, length, slice_index, slice_index_or, refl, sym, ◌∙◌, ap, subst, arith}
 use Rattle.std.specs.List.{flat_map}
 use Rattle.site_types.specs.declared.answer.Answer.{Answer}
 use Rattle.site_types.specs.declared.point_state.PointState.{PointState}
@@ -14,7 +14,8 @@ use Rattle.answer_lanes.proofs.Blocks.{answers_of_eights, answers_of_first, eigh
 use Rattle.loop_poller.specs.declared.group.Group.{Group}
 use Rattle.loop_poller.specs.Blocks.{IsWholeWithin}
 use Rattle.loop_poller.specs.Groups.{group_answers}
-use Rattle.loop_poller.specs.PointSets.{tells_alarm, tells_nothing}
+use Rattle.answer_lanes.specs.Words.{AreBitsOf}
+use Rattle.loop_poller.specs.PointSets.{TellStates, tells_alarm, tells_nothing}
 use Rattle.loop_poller.proofs.GroupMasks.{told_answers}
 
 -- the answers of a block made of one group
@@ -55,24 +56,47 @@ module _ (tick : ℕ) (states : List PointState) where
       ap (λ n. items_of answer_at (record { first = eight group alarms silents; taken = 0; count = n })) (sym eights)
       ∙ told_answers tick group states alarms silents masks.alarm masks.silent (λ some. omega (arith, eights, fits))
 
-  module _ (a b c d : Group) (p q r s t u v w : ℕ) where
+  -- the masks of four eights, each taken from the bits of a word
+  pub masks_in : (group : Group) (firsts alarm_bytes silent_bytes : List ℕ) (alarms silents number : ℕ) → number < 4 → group.first ≡ slice_index firsts number
+      → AreBitsOf alarm_bytes alarms → AreBitsOf silent_bytes silents → TellStates tells_alarm states firsts alarms
+      → TellStates tells_nothing states firsts silents
+      → AreMasks group states (slice_index alarm_bytes number) (slice_index silent_bytes number)
+  masks_in group firsts alarm_bytes silent_bytes alarms silents number less is are_alarms are_silents alarm silent = record {
+    alarm = λ k small within.
+        sym (are_alarms number k less small) ∙ alarm number k less small (subst (λ n. n + k < length states) is within)
+        ∙ ap (λ n. tells_alarm (slice_index_or states (n + k) Quiet)) (sym is);
+    silent = λ k small within.
+        sym (are_silents number k less small) ∙ silent number k less small (subst (λ n. n + k < length states) is within)
+        ∙ ap (λ n. tells_nothing (slice_index_or states (n + k) Quiet)) (sym is);
+  }
+
+  module _ (a b c d : Group) (alarms silents : List ℕ) where
     abbrev pub block : AnswerBlock
     block = record {
       stamp = record { 0 = tick };
       firsts = a.first ∷ b.first ∷ c.first ∷ d.first ∷ [];
-      alarms = p ∷ q ∷ r ∷ s ∷ [];
-      silents = t ∷ u ∷ v ∷ w ∷ [];
+      alarms = alarms;
+      silents = silents;
     }
 
+    abbrev masks : Group → ℕ → Type 0
+    masks group number = AreMasks group states (slice_index alarms number) (slice_index silents number)
+
+    abbrev at : Group → ℕ → AnswerGroup
+    at group number = eight group (slice_index alarms number) (slice_index silents number)
+
     -- the answers of four groups of eight
-    pub whole_told : AreMasks a states p t → AreMasks b states q u → AreMasks c states r v → AreMasks d states s w
+    pub whole_told : masks a 0 → masks b 1 → masks c 2 → masks d 3
         → IsWholeWithin a states → IsWholeWithin b states → IsWholeWithin c states → IsWholeWithin d states
         → items_of block_answer_at (whole_run block) ≡ flat_map (λ group. group_answers tick group states) (a ∷ b ∷ c ∷ d ∷ [])
     whole_told ma mb mc md wa wb wc wd =
         let answers = λ (g : AnswerGroup). items_of answer_at (eight_run g) in
         let told = λ (g : Group). group_answers tick g states in
+        let second = answers (at b 1) in
+        let third = answers (at c 2) in
+        let fourth = answers (at d 3) in
         answers_of_eights block
-        ∙ ap (λ (xs : List Answer). xs ++ (answers (eight b q u) ++ (answers (eight c r v) ++ (answers (eight d s w) ++ [])))) (eight_told a p t ma wa)
-        ∙ ap (λ (xs : List Answer). told a ++ (xs ++ (answers (eight c r v) ++ (answers (eight d s w) ++ [])))) (eight_told b q u mb wb)
-        ∙ ap (λ (xs : List Answer). told a ++ (told b ++ (xs ++ (answers (eight d s w) ++ [])))) (eight_told c r v mc wc)
-        ∙ ap (λ (xs : List Answer). told a ++ (told b ++ (told c ++ (xs ++ [])))) (eight_told d s w md wd)
+        ∙ ap (λ (xs : List Answer). xs ++ (second ++ (third ++ (fourth ++ [])))) (eight_told a _ _ ma wa)
+        ∙ ap (λ (xs : List Answer). told a ++ (xs ++ (third ++ (fourth ++ [])))) (eight_told b _ _ mb wb)
+        ∙ ap (λ (xs : List Answer). told a ++ (told b ++ (xs ++ (fourth ++ [])))) (eight_told c _ _ mc wc)
+        ∙ ap (λ (xs : List Answer). told a ++ (told b ++ (told c ++ (xs ++ [])))) (eight_told d _ _ md wd)

@@ -1,10 +1,10 @@
 -- The places of points in sets.
-use Rattle.std.proofs.Common.{◌≡◌, inl, inr, ℕ, ◌<◌, Bool, List, length, length-set, set, slice_index_or, sym, ◌∙◌, ap, arith}
+use Rattle.std.proofs.Common.{◌≡◌, inl, inr, ℕ, ◌<◌, Bool, false, List, length, replicate, length-set, set, slice_index_or, sym, ◌∙◌, ap, arith}
 use Rattle.std.proofs.lemmas.Bool.{cases_eq}
-use Rattle.std.proofs.lemmas.List.{get_or-set_other, get_or-set_same}
+use Rattle.std.proofs.lemmas.List.{get_or-replicate, get_or-set_other, get_or-set_same, length-replicate}
 use Rattle.site_types.specs.declared.point_state.PointState.{PointState}
 use Rattle.site_types.specs.declared.point_state.PointState.TheVariants.{Quiet}
-use Rattle.answer_lanes.specs.Places.{SetsPlace, has_place}
+use Rattle.answer_lanes.specs.Places.{HasFirst, SetsPlace, has_place}
 use Rattle.answer_lanes.specs.declared.place_set.PlaceSet.{PlaceSet}
 use Rattle.loop_poller.specs.PointSets.{HasPointsTelling}
 
@@ -25,4 +25,18 @@ those_after test states old new place state on within has sets is =
             sets.others k other ∙ has.is k (omega (arith, below, size)) ∙ ap test (sym (get_or-set_other states place k state Quiet other))
       ];
       room = omega (arith, room, same_room, size);
+    }
+
+-- at the start no point passes a test that a quiet one doesn't pass
+pub none_at_first : (test : PointState → Bool) (count : ℕ) (states : List PointState) (those : PlaceSet) → states ≡ replicate count Quiet → test Quiet ≡ false
+    → HasFirst count false those → HasPointsTelling test states those
+none_at_first test count states those all quiet first =
+    let size : length states ≡ count = ap length all ∙ length-replicate count Quiet in
+    let room = first.room in
+    record {
+      is = λ place below.
+          let small : place < count = omega (arith, below, size) in
+          first.is place small ∙ sym quiet
+          ∙ ap test (sym (ap (λ xs. slice_index_or xs place Quiet) all ∙ get_or-replicate count place Quiet Quiet small));
+      room = omega (arith, size, room);
     }

@@ -1,5 +1,6 @@
 -- The sets of the points that are in alarm and of those that are gone.
-use Rattle.std.specs.Prelude.{◌≡◌, ◌+◌, ◌*◌, ◌<◌, ℕ, Bool, false, true, List, length, slice_index_or}
+use Rattle.std.specs.Prelude.{◌≡◌, ◌+◌, ◌*◌, ◌<◌, ℕ, Bool, false, true, List, length, slice_index, slice_index_or}
+use Rattle.site_types.specs.Bits.{has_bit}
 use Rattle.site_types.specs.declared.point_state.PointState.{PointState}
 use Rattle.site_types.specs.declared.point_state.PointState.TheVariants.{Quiet, Alarm, Gone}
 use Rattle.answer_lanes.specs.Places.{has_place}
@@ -26,3 +27,9 @@ pub record HasPointsTelling (test : PointState → Bool) (states : List PointSta
 pub record AreInSets (states : List PointState) (alarms gone : PlaceSet) : Type 0 where
   pub alarm : HasPointsTelling tells_alarm states alarms
   pub missing : HasPointsTelling tells_nothing states gone
+
+-- the bits of a word tell which of eight points from each of four places on pass a test, those of the first lowest
+abbrev pub TellStates : (PointState → Bool) → List PointState → List ℕ → ℕ → Type 0
+TellStates test states firsts word =
+    (number k : ℕ) → number < 4 → k < 8 → slice_index firsts number + k < length states
+    → has_bit word (8 * number + k) ≡ test (slice_index_or states (slice_index firsts number + k) Quiet)

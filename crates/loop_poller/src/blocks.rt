@@ -7,7 +7,7 @@ ghost use Rattle.loop_poller.specs.Groups.{group_answers};
 use crate::group::Group;
 use crate::point_states::PointStates;
 use crate::polled_line::PolledLine;
-use answer_lanes::{AnswerBlock, Lane, Run};
+use answer_lanes::{AnswerBlock, Lane, Run, parted};
 use std::alloc::{AllocError, Global};
 use tick_units::Tick;
 
@@ -52,21 +52,12 @@ pub(crate) fn put_block(
         (flat_map (λ group. group_answers now.0 group states.now) groups.now) }
 {
     let [a, b, c, d] = groups;
+    let firsts = [a.first, b.first, c.first, d.first];
     let first = AnswerBlock {
         stamp: now,
-        firsts: [a.first, b.first, c.first, d.first],
-        alarms: [
-            states.alarms_from(a.first),
-            states.alarms_from(b.first),
-            states.alarms_from(c.first),
-            states.alarms_from(d.first),
-        ],
-        silents: [
-            states.gone_from(a.first),
-            states.gone_from(b.first),
-            states.gone_from(c.first),
-            states.gone_from(d.first),
-        ],
+        firsts,
+        alarms: parted(states.alarms_in(&firsts)),
+        silents: parted(states.gone_in(&firsts)),
     };
     answers.put_run(Run {
         first,

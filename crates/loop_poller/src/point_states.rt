@@ -1,9 +1,9 @@
 ghost use Rattle.std.specs.Prelude.{◌≡◌, ◌<◌, ◌+◌, ℕ, IfOk, length, replicate, slice_index_or, slice_set};
 ghost use Rattle.site_types.specs.declared.point_state.PointState.TheVariants.{Quiet};
 ghost use Rattle.site_types.specs.Bits.{has_bit};
-ghost use Rattle.loop_poller.specs.PointSets.{tells_alarm, tells_nothing};
+ghost use Rattle.loop_poller.specs.PointSets.{TellStates, tells_alarm, tells_nothing};
 
-use answer_lanes::PlaceSet;
+use answer_lanes::BlockSet;
 use site_types::PointState;
 use std::alloc::Global;
 use std::marker::Model;
@@ -14,8 +14,8 @@ use tick_units::NoMemory;
 pub struct PointStates {
     states: Vec<PointState>,
     /// The points in alarm.
-    alarms: PlaceSet,
-    gone: PlaceSet,
+    alarms: BlockSet,
+    gone: BlockSet,
 }
 
 impl Model for PointStates {
@@ -31,13 +31,13 @@ impl Model for PointStates {
 }
 
 impl PointStates {
-    /// The states of so many points, all quiet.
-    pub fn new(alloc: Global, count: usize) -> Result<PointStates, NoMemory>
+    /// The states of so many points, all quiet. Those of these blocks are kept in one word each.
+    pub fn new(alloc: Global, count: usize, blocks: &[[u16; 4]]) -> Result<PointStates, NoMemory>
         ensures { IfOk result (λ states. states ≡ replicate count Quiet) }
     {
         let states = vec![in alloc; PointState::Quiet; count]?;
-        let alarms = PlaceSet::first(alloc, count, false)?;
-        let gone = PlaceSet::first(alloc, count, false)?;
+        let alarms = BlockSet::first(alloc, count, false, blocks)?;
+        let gone = BlockSet::first(alloc, count, false, blocks)?;
         Ok(PointStates {
             states,
             alarms,
@@ -76,6 +76,22 @@ impl PointStates {
             → has_bit result k ≡ tells_alarm (slice_index_or self.now (first + k) Quiet) }
     {
         self.alarms.eight_within(first as usize)
+    }
+
+    /// Which of the eight points from each of four places on are in alarm, in one word, those of the first lowest.
+    #[inline(always)]
+    pub fn alarms_in(&self, firsts: &[u16; 4]) -> u32
+        ensures { TellStates tells_alarm self.now firsts.now result }
+    {
+        self.alarms.eights_from(firsts)
+    }
+
+    /// Which of the eight points from each of four places on are gone, in one word, those of the first lowest.
+    #[inline(always)]
+    pub fn gone_in(&self, firsts: &[u16; 4]) -> u32
+        ensures { TellStates tells_nothing self.now firsts.now result }
+    {
+        self.gone.eights_from(firsts)
     }
 
     /// Which of eight points are gone, from the one at this place on.

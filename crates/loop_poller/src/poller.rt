@@ -11,7 +11,7 @@ use crate::blocks::{blocks_of, put_block};
 use crate::group::Group;
 use crate::point_states::PointStates;
 use crate::polled_line::PolledLine;
-use answer_lanes::{AnswerBlock, Lane};
+use answer_lanes::{AnswerBlock, Lane, blocks_of_panel};
 use isolators::LineStatus;
 use site_types::{PieceState, PointState, Profile, Site, with_bit_8};
 use std::alloc::Global;
@@ -47,7 +47,8 @@ impl Poller {
         ];
         let profile = site.profile();
         let blocks = blocks_of(alloc, &lines, profile.round() as usize)?;
-        let states = PointStates::new(alloc, site.points.len())?;
+        let known = blocks_of_panel(alloc, site.points.as_slice(), panel)?;
+        let states = PointStates::new(alloc, site.points.len(), known.as_slice())?;
         Ok(Poller {
             profile,
             lines,

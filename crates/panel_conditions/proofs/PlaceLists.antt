@@ -1,5 +1,5 @@
 -- The first places of a set as a list, and what it tells of a run's points.
-use Rattle.std.proofs.Common.{◌≡◌, ◌≢◌, [], ◌+◌, ◌<◌, ◌≤◌, ℕ, Bool, Some, min, ◌==◌, slice_get, true, false, inl, inr, refl, sym, ◌∙◌, ap, arith}
+use Rattle.std.proofs.Common.{◌≡◌, ◌≢◌, [], ◌+◌, ◌<◌, ◌≤◌, ℕ, Bool, List, Some, min, ◌*◌, slice_index, ◌==◌, slice_get, true, false, inl, inr, refl, sym, ◌∙◌, ap, arith}
 use mathlib.Core.Bool.{beq}
 use Rattle.std.specs.Int.{bit_at}
 use Rattle.std.specs.Int.Bits.{bit_xor}
@@ -15,7 +15,10 @@ use Rattle.answer_lanes.specs.declared.place_set.PlaceSet.{PlaceSet}
 use Rattle.answer_lanes.specs.declared.run.Run.{Run}
 use Rattle.answer_lanes.specs.Places.{AreEight, HasFirst, SetsPlace, has_place}
 use Rattle.answer_lanes.specs.Points.{finding_at}
-use Rattle.panel_conditions.specs.Told.{AreTold, MarksTold, TellMissing, are_places}
+use Rattle.answer_lanes.specs.declared.finding_block.FindingBlock.{FindingBlock}
+use Rattle.answer_lanes.specs.Blocks.{eight_found}
+use Rattle.answer_lanes.specs.Words.{AreBitsOf, AreEights}
+use Rattle.panel_conditions.specs.Told.{AreTold, AreToldInBlock, AreToldInEight, HaveEights, MarksTold, TellMissing, are_places, group_run}
 
 -- what stands in the list
 pub place_in : (set : PlaceSet) (n k : ℕ) (b : Bool) → slice_get (are_places set n) k ≡ Some b → (k < n) × (has_place set k ≡ b)
@@ -63,6 +66,17 @@ told_in set n bits run eight most within are same place from below =
     ap (slice_get (are_places set n)) at
     ∙ place_at set n (run.first.point + place) (omega (arith, within, below))
     ∙ ap Some (sym (are place (omega (arith, eight, below))) ∙ same place from below)
+
+-- a block tells of its points what a word does
+pub block_told : (set : PlaceSet) (n word own : ℕ) (block : FindingBlock) → n ≤ 65536 → HaveEights n block.firsts → AreEights set block.firsts word
+    → AreBitsOf block.missing own → word ≡ own → AreToldInBlock (are_places set n) block
+block_told set n word own block most within eights bits same = (eight 0 (omega arith), eight 1 (omega arith), eight 2 (omega arith), eight 3 (omega arith))
+  where
+    eight : (number : ℕ) → number < 4 → AreToldInEight (are_places set n) block number
+    eight number less =
+        told_in set n (slice_index block.missing number) (group_run (eight_found block number).group) (omega arith) most (within number less)
+        (λ k small. sym (bits number k less small) ∙ ap (λ w. has_bit w (8 * number + k)) (sym same) ∙ eights number k less small)
+        (λ place from below. refl)
 
 -- ---- bits that are the same
 

@@ -1,5 +1,5 @@
 -- What the last findings of points told of them: for each place, whether it was told missing. It is kept as a set.
-use Rattle.std.specs.Prelude.{◌≡◌, ◌≢◌, ◌⊎◌, ◌+◌, ◌<◌, ◌≤◌, ℕ, Bool, List, Some, bit_and, bit_xor, map, slice_get}
+use Rattle.std.specs.Prelude.{◌≡◌, ◌≢◌, ◌⊎◌, ◌+◌, ◌<◌, ◌≤◌, ℕ, Bool, List, Some, bit_and, bit_xor, map, slice_get, slice_index}
 use Rattle.std.specs.List.{range_with_len}
 use Rattle.site_types.specs.Bits.{has_bit}
 use Rattle.coincidence_rules.specs.declared.finding.Finding.{Finding}
@@ -67,6 +67,10 @@ AreToldInEight told block number = AreTold told (group_run (eight_found block nu
 abbrev pub AreToldInBlock : List Bool → FindingBlock → Type 0
 AreToldInBlock told block = AreToldInEight told block 0 × AreToldInEight told block 1
     × AreToldInEight told block 2 × AreToldInEight told block 3
+
+-- of so many places there are eight from each of four on
+abbrev pub HaveEights : ℕ → List ℕ → Type 0
+HaveEights count firsts = (number : ℕ) → number < 4 → slice_index firsts number + 8 ≤ count
 
 -- one mark is set, where the point has one
 abbrev pub MarksTold : ℕ → Bool → List Bool → List Bool → Type 0

@@ -11,7 +11,7 @@ use crate::loop_address::LoopAddress;
 use crate::point_sets::{put, without};
 use crate::point_switch::PointSwitch;
 use crate::told_missing::ToldMissing;
-use answer_lanes::{FindingBlock, FindingGroup, Run, Several};
+use answer_lanes::{FindingBlock, FindingGroup, Run, Several, blocks_of_panel};
 use coincidence_rules::Finding;
 use site_types::{Item, Operation, Point, PointSet, Retained, Site, Zone, has_bit_32};
 use std::alloc::Global;
@@ -50,7 +50,8 @@ impl Points {
         let of_zones = sets_of_zones(alloc, site, panel)?;
         let off = PointSwitch::new(points_that(site, panel, kept, Asked::Disabled));
         let zone_off = PointSwitch::new(points_that(site, panel, kept, Asked::ZoneDisabled));
-        let told = ToldMissing::none(alloc, site.points.len())?;
+        let blocks = blocks_of_panel(alloc, site.points.as_slice(), panel)?;
+        let told = ToldMissing::none(alloc, site.points.len(), blocks.as_slice())?;
         Ok(Points {
             addresses,
             of_zones,

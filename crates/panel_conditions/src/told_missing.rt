@@ -1,9 +1,10 @@
 ghost use Rattle.std.specs.Prelude.{◌≡◌, ◌<◌, IfOk, Some, [], slice_get, true};
 ghost use Rattle.answer_lanes.specs.Runs.{HasShortCount};
-ghost use Rattle.panel_conditions.specs.Told.{AreTold, AreToldInBlock, AreToldInEight, MarksTold, TellMissing};
+ghost use Rattle.panel_conditions.specs.Told.{TellMissing};
+ghost use Rattle.panel_conditions.specs.Told.{AreTold, AreToldInBlock, AreToldInEight, HaveEights, MarksTold};
 
 use crate::next_bit::next_bit;
-use answer_lanes::{FindingBlock, FindingGroup, PlaceSet, Run};
+use answer_lanes::{BlockSet, FindingBlock, FindingGroup, Run, joined};
 use site_types::has_bit_8;
 use std::alloc::Global;
 use std::marker::Model;
@@ -13,13 +14,14 @@ use tick_units::NoMemory;
 /// those of a group are compared at once. Contracts see it as a list.
 #[derive(Drop)]
 pub struct ToldMissing {
-    missing: PlaceSet,
+    missing: BlockSet,
     /// How many points there are. Those past the last place that has a number don't count.
     count: usize,
 }
 
 impl Model for ToldMissing {
     ghost use Rattle.std.specs.Prelude.{◌≤◌, ◌<◌, ◌+◌, ◌*◌, Bool, List, length};
+    ghost use Rattle.panel_conditions.specs.Told.{TellMissing};
     ghost use Rattle.panel_conditions.specs.Told.{are_places};
 
     ghost Value = { List Bool };
@@ -30,11 +32,11 @@ impl Model for ToldMissing {
 }
 
 impl ToldMissing {
-    /// Nothing was told of any of so many points.
-    pub fn none(alloc: Global, count: usize) -> Result<ToldMissing, NoMemory>
+    /// Nothing was told of any of so many points. Those of these blocks are kept in one word each.
+    pub fn none(alloc: Global, count: usize, blocks: &[[u16; 4]]) -> Result<ToldMissing, NoMemory>
         ensures { IfOk result (λ told. TellMissing [] told) }
     {
-        let missing = PlaceSet::first(alloc, count, false)?;
+        let missing = BlockSet::first(alloc, count, false, blocks)?;
         Ok(ToldMissing {
             missing,
             count: count.min(65_536),
@@ -76,10 +78,10 @@ impl ToldMissing {
     pub fn has_block(&self, block: &FindingBlock) -> bool
         ensures { result ≡ true → AreToldInBlock self.now block.now }
     {
-        self.has_eight(block, 0)
-            && self.has_eight(block, 1)
-            && self.has_eight(block, 2)
-            && self.has_eight(block, 3)
+        if !are_within(&block.firsts, self.count) {
+            return false;
+        }
+        self.missing.eights_from(&block.firsts) == joined(&block.missing)
     }
 
     /// Marks what the finding of a point told.
@@ -90,4 +92,16 @@ impl ToldMissing {
             self.missing.set(place, missing);
         }
     }
+}
+
+// Whether of so many places there are eight from each of four on.
+fn are_within(firsts: &[u16; 4], count: usize) -> bool
+    ensures { result ≡ true → HaveEights count firsts.now }
+{
+    for first in firsts {
+        if *first as usize + 8 > count {
+            return false;
+        }
+    }
+    true
 }

@@ -10,5 +10,5 @@ returns c =
     let run = c.args.run in
     c.put_run.ensures
     ∙ ap (with_put c.args.findings.now) (findings_of_first (record { first = c.from.result; taken = run.taken; count = run.count }) c.requires.eight
-    ∙ ap (λ first. items_of eight_finding_at (record { first = first; taken = run.taken; count = run.count })) c.from.ensures
+    ∙ ap (λ first. items_of eight_finding_at (record { first = first; taken = run.taken; count = run.count })) c.from.ensures.first
     ∙ findings_of_group (eight_of_group run.first) run.taken run.count refl)
