@@ -6,7 +6,7 @@ use Rattle.std.specs.List.{AllByRecursion, list_all}
 use Rattle.std.proofs.Math.Seq.{take-add, take-append-add}
 use Rattle.std.proofs.lemmas.Bool.{and_from, and_parts, eqb-true, leb-true, lt-ltb, ne_eqb, not_from_false}
 use Rattle.std.proofs.lemmas.Fmt.{decimal_digit}
-use Rattle.std.proofs.lemmas.List.{get_or-take, length-take, length-take-le, map-append, take-append-drop, take_at, take_more}
+use Rattle.std.proofs.lemmas.List.{drop-drop, get_or-drop, get_or-take, length-drop, length-take, length-take-le, map-append, take-append-drop, take_at, take_more}
 use Rattle.std.proofs.lemmas.Option.{same_Some, slice_get_within}
 use Rattle.line_fields.specs.Words.{value_beside_letter}
 use Rattle.site_types.specs.Numbers.{all_digits, begins_as_number, is_digit, number_of, value_after}
@@ -26,8 +26,9 @@ use Rattle.tick_units.specs.Orders.{IsOrder}
 use Rattle.tick_units.specs.Ticks.{last_tick}
 use Rattle.tick_units.specs.declared.seat.Seat.{Seat}
 use Rattle.tick_units.specs.declared.task.Task.{Task}
+use Rattle.tick_units.specs.declared.task.Task.TheVariants.{Keep}
 use Rattle.record_lines.specs.Lines.{is_printable}
-use Rattle.record_lines.specs.Printed.{HasInFront, joined, known_name, letter_of, line_text, name_text, point_state_word, seat_number, seat_text}
+use Rattle.record_lines.specs.Printed.{AddsSeats, HasInFront, joined, known_name, letter_of, line_text, name_text, point_state_word, seat_number, seat_text}
 use Rattle.record_lines.specs.ReadBack.{Brings, BringsSeats}
 use Rattle.record_lines.specs.Stands.{Accepts, Feeds, Keeps, StandsFor}
 use Rattle.record_lines.specs.Words.{letters, task_of}
@@ -176,12 +177,55 @@ pub keep_more : (text rest : List ℕ) (used : ℕ) (seats : List Seat) (seat : 
 keep_more text rest used seats seat front behind long space letter is =
     seat_more text used 2 seats seat front (ap (take 2) (sym behind) ∙ two rest long space letter ∙ ap (λ t. 32 ∷ t) (sym is))
 
-pub panel_more : (text rest : List ℕ) (used : ℕ) (seats : List Seat) (task : Task) → take used text ≡ joined [] (map seat_text seats) → rest ≡ drop used text
-    → 3 ≤ length rest → get_or rest 0 0 ≡ 32 → task_of (get_or rest 1 0) ≡ Some task → is_digit (get_or rest 2 0) ≡ true →
-    take (used + 3) text ≡ joined [] (map seat_text (seats ++ record { panel = get_or rest 2 0 - 48; task = task } ∷ []))
-panel_more text rest used seats task front behind long space known digit =
-    seat_more text used 3 seats _ front
-    (ap (take 3) (sym behind) ∙ three rest long space ∙ ap (λ t. 32 ∷ t) (letter_seat (get_or rest 1 0) (get_or rest 2 0) task known digit))
+-- a seat more behind seats that were added
+seat_added : (before seats : List Seat) (text : List ℕ) (used more : ℕ) (seat : Seat)
+    → joined [] (map seat_text seats) ≡ joined [] (map seat_text before) ++ take used text → take more (drop used text) ≡ 32 ∷ seat_text seat
+    → joined [] (map seat_text (seats ++ seat ∷ [])) ≡ joined [] (map seat_text before) ++ take (used + more) text
+seat_added before seats text used more seat front is =
+    let first = joined [] (map seat_text before) in
+    ap (joined []) (map-append seat_text seats (seat ∷ [])) ∙ joined_push [] (map seat_text seats) (seat_text seat) ∙ ap (λ t. t ++ 32 ∷ seat_text seat) front
+    ∙ append_assoc first (take used text) (32 ∷ seat_text seat)
+    ∙ ap (λ t. first ++ t) (ap (λ t. take used text ++ t) (sym is) ∙ sym (take-add used more text))
+
+pub panel_added : (before seats : List Seat) (text : List ℕ) (used : ℕ) (task : Task)
+    → joined [] (map seat_text seats) ≡ joined [] (map seat_text before) ++ take used text → used + 2 < length text → get_or text used 0 ≡ 32
+    → task_of (get_or text (used + 1) 0) ≡ Some task → is_digit (get_or text (used + 2) 0) ≡ true
+    → joined [] (map seat_text (seats ++ record { panel = get_or text (used + 2) 0 - 48; task = task } ∷ []))
+    ≡ joined [] (map seat_text before) ++ take (used + 3) text
+panel_added before seats text used task front within space known digit =
+    let rest = drop used text in
+    let at : (place : ℕ) → get_or rest place 0 ≡ get_or text (used + place) 0 = λ place. get_or-drop used text place 0 in
+    let first : get_or rest 0 0 ≡ 32 = at 0 ∙ ap (λ place. get_or text place 0) (omega arith) ∙ space in
+    let short = length-drop used text in
+    let bytes = three rest (omega (arith, within, short)) first ∙ ap (λ byte. 32 ∷ byte ∷ get_or rest 2 0 ∷ []) (at 1)
+    ∙ ap (λ byte. 32 ∷ get_or text (used + 1) 0 ∷ byte ∷ []) (at 2) in
+    seat_added before seats text used 3 _ front
+    (bytes ∙ ap (λ t. 32 ∷ t) (letter_seat (get_or text (used + 1) 0) (get_or text (used + 2) 0) task known digit))
+
+-- seats behind seats
+pub seats_behind : (text : List ℕ) (used more : ℕ) (seats after : List Seat) → take used text ≡ joined [] (map seat_text seats)
+    → joined [] (map seat_text after) ≡ joined [] (map seat_text seats) ++ take more (drop used text)
+    → take (used + more) text ≡ joined [] (map seat_text after)
+seats_behind text used more seats after front is =
+    take-add used more text ∙ ap (λ f. f ++ take more (drop used text)) front ∙ sym is
+
+-- Keep's seat between those of panels, and a line end behind them
+pub keep_between : (text rest under tail : List ℕ) (before behind : ℕ) (none first mid last : List Seat) → none ≡ [] → rest ≡ drop before text
+    → under ≡ drop 2 rest → tail ≡ drop behind under → AddsSeats none text before first → 2 ≤ length rest → get_or rest 0 0 ≡ 32 → get_or rest 1 0 ≡ 107
+    → mid ≡ first ++ record { panel = 0; task = Keep } ∷ [] → AddsSeats mid under behind last → 1 ≤ length tail → get_or tail 0 0 ≡ 10
+    → HasInFront (joined [] (map seat_text last)) text (before + 2 + behind + 1)
+keep_between text rest under tail before behind none first mid last is_none is_rest is_under is_tail adds long space letter is_mid more some end =
+    let used = before + 2 + behind in
+    let front : take before text ≡ joined [] (map seat_text first) = sym (adds.front ∙ ap (λ n. joined [] (map seat_text n) ++ take before text) is_none) in
+    let with_keep = keep_more text rest before first (record { panel = 0; task = Keep }) front is_rest long space letter refl
+    ∙ ap (λ m. joined [] (map seat_text m)) (sym is_mid) in
+    let second : under ≡ drop (before + 2) text = is_under ∙ ap (drop 2) is_rest ∙ drop-drop 2 before text in
+    let whole = seats_behind text (before + 2) behind mid last with_keep (more.front ∙ ap (λ r. joined [] (map seat_text mid) ++ take behind r) second) in
+    let third : tail ≡ drop used text = is_tail ∙ ap (drop behind) second ∙ drop-drop behind (before + 2) text in
+    let within : used < length text = omega (arith, some, ap length third, length-drop used text) in
+    let byte : get_or text used 0 ≡ 10 = ap (λ place. get_or text place 0) (omega arith) ∙ sym (get_or-drop used text 0 0) ∙ ap (λ t. get_or t 0 0) (sym third)
+    ∙ end in
+    ends_here (joined [] (map seat_text last)) text used whole within byte
 
 -- ---- what a reader makes of it
 

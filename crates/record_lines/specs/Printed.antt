@@ -1,5 +1,5 @@
 -- The text of a line.
-use Rattle.std.specs.Prelude.{◌≡◌, ◌+◌, ◌++◌, ℕ, Bool, true, false, List, [], ◌∷◌, length, map, take, codes, decimal}
+use Rattle.std.specs.Prelude.{◌≡◌, ◌≤◌, ◌+◌, ◌++◌, ℕ, Bool, true, false, List, [], ◌∷◌, length, map, take, codes, decimal}
 use Rattle.std.specs.Prelude.{Option, Some, None}
 use Rattle.site_types.specs.Things.{name_at}
 use Rattle.site_types.specs.declared.site.Site.{Site}
@@ -149,3 +149,8 @@ line_text site End = codes "end"
 pub record HasInFront (text piece : List ℕ) (used : ℕ) : Type 0 where
   pub all : used ≡ length text + 1
   pub front : take used piece ≡ text ++ 10 ∷ []
+
+-- so many bytes at the front of a text are seats, which are added to those of before
+pub record AddsSeats (before : List Seat) (text : List ℕ) (used : ℕ) (after : List Seat) : Type 0 where
+  pub within : used ≤ length text
+  pub front : joined [] (map seat_text after) ≡ joined [] (map seat_text before) ++ take used text

@@ -3,7 +3,7 @@
 //! line, and each that is to be refused, goes the long way.
 
 ghost use Rattle.std.specs.Prelude.{◌≡◌, ◌<◌, ◌≤◌, [], IfSome, decimal, length, map};
-ghost use Rattle.record_lines.specs.Printed.{HasInFront, joined, line_text, point_state_word, seat_text};
+ghost use Rattle.record_lines.specs.Printed.{AddsSeats, HasInFront, joined, line_text, point_state_word, seat_text};
 ghost use Rattle.record_lines.specs.declared.line.Line.TheVariants.{Event as EventLine, Order as OrderLine};
 ghost use Rattle.record_lines.specs.declared.line.Line.TheVariants.{Tick as TickLine};
 ghost use Rattle.site_types.specs.Valid.{IsValid};
@@ -68,39 +68,53 @@ pub fn order_in_front(piece: &[u8], seats: &mut ArrayVec<Seat, 65>) -> Option<us
 }
 
 // How many bytes seats and a line end take at the front of a text, if they stand there, each seat behind a space.
+// No order has Keep's seat twice.
 fn seats_in_front(text: &[u8], seats: &mut ArrayVec<Seat, 65>) -> Option<usize>
     requires { seats.old.items ≡ [] }
     ensures { IfSome result
         (λ used. HasInFront (joined [] (map seat_text seats.new.items)) text.now used) }
 {
-    let mut used = 0;
-    let mut rest = text;
-    while !seats.is_full() {
-        match rest {
-            [b' ', letter, digit, behind @ ..] if digit.is_ascii_digit() => {
-                let task = task(*letter)?;
-                seats.push(Seat {
-                    panel: *digit - b'0',
-                    task,
-                });
-                used += 3;
-                rest = behind;
+    let before = panels_seats(text, seats)?;
+    match &text[before..] {
+        [b'\n', ..] => Some(before + 1),
+        [b' ', b'k', rest @ ..] if !seats.is_full() => {
+            seats.push(Seat {
+                panel: 0,
+                task: Task::Keep,
+            });
+            let behind = panels_seats(rest, seats)?;
+            match &rest[behind..] {
+                [b'\n', ..] => Some(before + 2 + behind + 1),
+                _ => None,
             }
-            [b' ', b'k', behind @ ..] => {
-                seats.push(Seat {
-                    panel: 0,
-                    task: Task::Keep,
-                });
-                used += 2;
-                rest = behind;
-            }
-            _ => break,
         }
-    }
-    match rest {
-        [b'\n', ..] => Some(used + 1),
         _ => None,
     }
+}
+
+// How many bytes the seats of panels take at the front of a text. Each takes three, so that what has room is known
+// before the first.
+fn panels_seats(text: &[u8], seats: &mut ArrayVec<Seat, 65>) -> Option<usize>
+    ensures { IfSome result
+        (λ used. AddsSeats seats.old.items text.now used seats.new.items) }
+{
+    let last = text
+        .len()
+        .min(3 * seats.remaining_capacity())
+        .saturating_sub(2);
+    let mut used = 0;
+    while used < last && text[used] == b' ' {
+        let digit = text[used + 2];
+        if !digit.is_ascii_digit() {
+            break;
+        }
+        seats.push(Seat {
+            panel: digit - b'0',
+            task: task(text[used + 1])?,
+        });
+        used += 3;
+    }
+    Some(used)
 }
 
 /// How many bytes the line of a point takes at the front of a piece, if one stands there, the point and what it

@@ -8,6 +8,7 @@ use crate::form::Kind;
 use line_fields::is_word;
 use site_types::{PieceState, PointState, SupplyKind};
 use tick_units::Task;
+use tick_units::Task::{Decide, Desk, Drive, Effect, Hold, Keep, Link, Poll, Supply};
 
 pub fn point_state(word: &[u8]) -> Option<PointState>
     ensures { result ≡ point_state_of word.now }
@@ -91,19 +92,33 @@ pub fn item_kind(word: &[u8]) -> Option<Kind>
     }
 }
 
+// The tasks by their letters. Keep stands where no letter of a panel's task is.
+static TASKS: [Task; 256] = [
+    Keep, Keep, Keep, Keep, Keep, Keep, Keep, Keep, Keep, Keep, Keep, Keep, Keep, Keep, Keep, Keep,
+    Keep, Keep, Keep, Keep, Keep, Keep, Keep, Keep, Keep, Keep, Keep, Keep, Keep, Keep, Keep, Keep,
+    Keep, Keep, Keep, Keep, Keep, Keep, Keep, Keep, Keep, Keep, Keep, Keep, Keep, Keep, Keep, Keep,
+    Keep, Keep, Keep, Keep, Keep, Keep, Keep, Keep, Keep, Keep, Keep, Keep, Keep, Keep, Keep, Keep,
+    Keep, Keep, Keep, Keep, Keep, Keep, Keep, Keep, Keep, Keep, Keep, Keep, Keep, Keep, Keep, Keep,
+    Keep, Keep, Keep, Keep, Keep, Keep, Keep, Keep, Keep, Keep, Keep, Keep, Keep, Keep, Keep, Keep,
+    Keep, Keep, Keep, Keep, Decide, Effect, Keep, Keep, Hold, Keep, Keep, Keep, Link, Keep, Keep,
+    Desk, Poll, Keep, Drive, Supply, Keep, Keep, Keep, Keep, Keep, Keep, Keep, Keep, Keep, Keep,
+    Keep, Keep, Keep, Keep, Keep, Keep, Keep, Keep, Keep, Keep, Keep, Keep, Keep, Keep, Keep, Keep,
+    Keep, Keep, Keep, Keep, Keep, Keep, Keep, Keep, Keep, Keep, Keep, Keep, Keep, Keep, Keep, Keep,
+    Keep, Keep, Keep, Keep, Keep, Keep, Keep, Keep, Keep, Keep, Keep, Keep, Keep, Keep, Keep, Keep,
+    Keep, Keep, Keep, Keep, Keep, Keep, Keep, Keep, Keep, Keep, Keep, Keep, Keep, Keep, Keep, Keep,
+    Keep, Keep, Keep, Keep, Keep, Keep, Keep, Keep, Keep, Keep, Keep, Keep, Keep, Keep, Keep, Keep,
+    Keep, Keep, Keep, Keep, Keep, Keep, Keep, Keep, Keep, Keep, Keep, Keep, Keep, Keep, Keep, Keep,
+    Keep, Keep, Keep, Keep, Keep, Keep, Keep, Keep, Keep, Keep, Keep, Keep, Keep, Keep, Keep, Keep,
+    Keep, Keep, Keep, Keep, Keep, Keep, Keep, Keep, Keep, Keep, Keep, Keep, Keep, Keep, Keep, Keep,
+    Keep, Keep,
+];
+
 /// The task that a seat's letter stands for. A panel's number follows each letter but that of Keep.
 pub fn task(letter: u8) -> Option<Task>
     ensures { result ≡ task_of letter }
 {
-    match letter {
-        b'p' => Some(Task::Poll),
-        b'd' => Some(Task::Decide),
-        b's' => Some(Task::Supply),
-        b'o' => Some(Task::Desk),
-        b'h' => Some(Task::Hold),
-        b'l' => Some(Task::Link),
-        b'e' => Some(Task::Effect),
-        b'r' => Some(Task::Drive),
-        _ => None,
+    match TASKS[letter as usize] {
+        Keep => None,
+        task => Some(task),
     }
 }
