@@ -187,20 +187,18 @@ seat_added before seats text used more seat front is =
     ∙ append_assoc first (take used text) (32 ∷ seat_text seat)
     ∙ ap (λ t. first ++ t) (ap (λ t. take used text ++ t) (sym is) ∙ sym (take-add used more text))
 
-pub panel_added : (before seats : List Seat) (text : List ℕ) (used : ℕ) (task : Task)
+pub panel_added : (before seats : List Seat) (text : List ℕ) (used letter digit : ℕ) (task : Task)
     → joined [] (map seat_text seats) ≡ joined [] (map seat_text before) ++ take used text → used + 2 < length text → get_or text used 0 ≡ 32
-    → task_of (get_or text (used + 1) 0) ≡ Some task → is_digit (get_or text (used + 2) 0) ≡ true
-    → joined [] (map seat_text (seats ++ record { panel = get_or text (used + 2) 0 - 48; task = task } ∷ []))
-    ≡ joined [] (map seat_text before) ++ take (used + 3) text
-panel_added before seats text used task front within space known digit =
+    → get_or text (used + 1) 0 ≡ letter → get_or text (used + 2) 0 ≡ digit → task_of letter ≡ Some task → is_digit digit ≡ true
+    → joined [] (map seat_text (seats ++ record { panel = digit - 48; task = task } ∷ [])) ≡ joined [] (map seat_text before) ++ take (used + 3) text
+panel_added before seats text used letter digit task front within space is_letter is_digit known numbered =
     let rest = drop used text in
     let at : (place : ℕ) → get_or rest place 0 ≡ get_or text (used + place) 0 = λ place. get_or-drop used text place 0 in
     let first : get_or rest 0 0 ≡ 32 = at 0 ∙ ap (λ place. get_or text place 0) (omega arith) ∙ space in
     let short = length-drop used text in
-    let bytes = three rest (omega (arith, within, short)) first ∙ ap (λ byte. 32 ∷ byte ∷ get_or rest 2 0 ∷ []) (at 1)
-    ∙ ap (λ byte. 32 ∷ get_or text (used + 1) 0 ∷ byte ∷ []) (at 2) in
-    seat_added before seats text used 3 _ front
-    (bytes ∙ ap (λ t. 32 ∷ t) (letter_seat (get_or text (used + 1) 0) (get_or text (used + 2) 0) task known digit))
+    let bytes = three rest (omega (arith, within, short)) first ∙ ap (λ byte. 32 ∷ byte ∷ get_or rest 2 0 ∷ []) (at 1 ∙ is_letter)
+    ∙ ap (λ byte. 32 ∷ letter ∷ byte ∷ []) (at 2 ∙ is_digit) in
+    seat_added before seats text used 3 _ front (bytes ∙ ap (λ t. 32 ∷ t) (letter_seat letter digit task known numbered))
 
 -- seats behind seats
 pub seats_behind : (text : List ℕ) (used more : ℕ) (seats after : List Seat) → take used text ≡ joined [] (map seat_text seats)

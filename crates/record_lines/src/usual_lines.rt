@@ -98,23 +98,21 @@ fn panels_seats(text: &[u8], seats: &mut ArrayVec<Seat, 65>) -> Option<usize>
     ensures { IfSome result
         (λ used. AddsSeats seats.old.items text.now used seats.new.items) }
 {
-    let last = text
-        .len()
-        .min(3 * seats.remaining_capacity())
-        .saturating_sub(2);
-    let mut used = 0;
-    while used < last && text[used] == b' ' {
-        let digit = text[used + 2];
+    let room = text.len().min(3 * seats.remaining_capacity());
+    // Where the next panel's number stands.
+    let mut place = 2;
+    while place < room && text[place - 2] == b' ' {
+        let digit = text[place];
         if !digit.is_ascii_digit() {
             break;
         }
         seats.push(Seat {
             panel: digit - b'0',
-            task: task(text[used + 1])?,
+            task: task(text[place - 1])?,
         });
-        used += 3;
+        place += 3;
     }
-    Some(used)
+    Some(place - 2)
 }
 
 /// How many bytes the line of a point takes at the front of a piece, if one stands there, the point and what it
