@@ -7,11 +7,12 @@
 //! zones. So a turn looks at what is new, and not at each point. Contracts see a [`Lane`] as the list of its items,
 //! the oldest first, however they stand in runs. [`Run::one`] is an item by itself.
 //!
-//! A [`PlaceSet`] tells of eight places at once, or of four times eight, whether each is one of some: of the points
-//! that rest, that are missing or that are in alarm. [`joined`] and [`parted`] make one word of four bytes and take
-//! it apart.
+//! A [`BlockSet`] tells of eight places at once, or of four times eight, whether each is one of some: of the points
+//! that rest, that are missing or that are in alarm. It is a [`PlaceSet`] that keeps the places of the blocks in which
+//! a panel is asked, [`blocks_of_panel`], in one word each. [`joined`] and [`parted`] make one word of four bytes and
+//! take it apart.
 //!
-//! Only [`Lane::new`] and [`PlaceSet::first`] take memory.
+//! Only [`Lane::new`], [`BlockSet::first`], [`PlaceSet::first`] and [`blocks_of_panel`] take memory.
 #![tactic(auto)]
 
 mod answer_block;
