@@ -24,7 +24,8 @@ eight_of block number = record {
 -- a block has nothing in the eights behind the first one
 abbrev pub HasFirstAlone : AnswerBlock → Type 0
 HasFirstAlone block =
-    (number : ℕ) → 1 ≤ number → eight_of block number ≡ record { stamp = block.stamp; point = 0; alarms = 0; silents = 0 }
+    (number : ℕ) → 1 ≤ number
+    → eight_of block number ≡ record { stamp = block.stamp; point = 0; alarms = 0; silents = 0 }
 
 -- the answer at a place of a block, eight for each eight
 abbrev pub block_answer_at : AnswerBlock → ℕ → Answer

@@ -1,5 +1,6 @@
 -- What the last findings of points told of them: for each place, whether it was told missing. It is kept as a set.
-use Rattle.std.specs.Prelude.{◌≡◌, ◌≢◌, ◌⊎◌, ◌+◌, ◌<◌, ◌≤◌, ℕ, Bool, List, Some, bit_and, bit_xor, map, slice_get, slice_index}
+use Rattle.std.specs.Prelude.{◌≡◌, ◌≢◌, ◌⊎◌, ◌+◌, ◌<◌, ◌≤◌, ℕ, Bool, List, Some, bit_and, bit_xor, map, slice_get}
+use Rattle.std.specs.Prelude.{slice_index}
 use Rattle.std.specs.List.{range_with_len}
 use Rattle.site_types.specs.Bits.{has_bit}
 use Rattle.coincidence_rules.specs.declared.finding.Finding.{Finding}
