@@ -7,3 +7,4 @@ pub mod Turned
 pub mod Requested
 -- facts read from words
 pub mod HeardMasks
+pub mod HeardFacts

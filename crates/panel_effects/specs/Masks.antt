@@ -1,5 +1,5 @@
 -- The facts of a turn of Effect as masks by panel, without a bit besides.
-use Rattle.std.specs.Prelude.{◌≡◌, ℕ, ◌+◌, ◌≤◌, ◌<◌, ◌&&◌, Bool, false, nat_lt, slice_index}
+use Rattle.std.specs.Prelude.{◌≡◌, ℕ, ◌+◌, ◌&&◌, Bool, false, nat_lt}
 use Rattle.site_types.specs.declared.site.Site.{Site}
 use Rattle.site_types.specs.Bits.{mask_of}
 use Rattle.site_types.specs.Limits.{most_panels}
@@ -24,9 +24,3 @@ pub record AreMasksOf (site : Site) (facts : Facts) (masks : Masks) : Type 0 whe
 -- the masks of what counts by hand
 abbrev pub hand_masks : Masks → Masks
 hand_masks masks = record { zones = masks.manual; manual = masks.manual; faults = 0 }
-
--- masks have zones of the first so many panels alone: there is no bit in the places after them
-abbrev pub HaveZonesOfFirst : ℕ → Masks → Type 0
-HaveZonesOfFirst panels masks =
-    (place : ℕ) → panels ≤ place → place < most_panels
-    → (slice_index masks.zones place ≡ 0) × (slice_index masks.manual place ≡ 0)

@@ -1,8 +1,8 @@
-ghost use Rattle.std.specs.Prelude.{◌≡◌, ◌≤◌};
-ghost use Rattle.site_types.specs.Limits.{most_panels};
-ghost use Rattle.panel_effects.specs.Masks.{HaveZonesOfFirst, hand_masks};
+ghost use Rattle.std.specs.Prelude.{◌≡◌};
+ghost use Rattle.panel_links.specs.Stands.{HasPanel};
+ghost use Rattle.panel_effects.specs.Heard.{TellsFacts};
+ghost use Rattle.panel_effects.specs.Masks.{hand_masks};
 
-use crate::heard::{are_heard, facts_heard};
 use cause_effect::{Facts, Plan, Steps, Values};
 use panel_links::Ring;
 use site_types::Requests;
@@ -12,22 +12,17 @@ use std::sync::ledger::Ledger;
 #[derive(Drop)]
 pub struct Effects {
     facts: Facts,
-    /// How many panels, from the first on, may have zones in the facts.
-    reach: u8,
     /// The solution over the facts.
     normal: Values,
     /// The solution over what counts by hand.
     manual: Values,
     requests: Requests,
-    ghost few: { reach ≤ most_panels },
-    ghost within: { HaveZonesOfFirst reach facts },
 }
 
 impl Effects {
     ghost use Rattle.panel_effects.specs.Changes.{AsksAsRuled, HasNoTurn, MakesEffectTurn, ReleasesAsRuled};
     ghost use Rattle.panel_effects.specs.Changes.{RisesByChanges, RisesByFactsOfRun};
     ghost use Rattle.panel_effects.specs.Heard.{RisesByWords, TurnsByWords};
-    ghost use Rattle.panel_links.specs.Stands.{HasPanel};
 
     /// Of a panel whose Effect has had no turn yet: no fact is true, and nothing is asked for.
     pub fn new(panel: u8, plan: &Plan) -> Effects
@@ -42,7 +37,6 @@ impl Effects {
         plan.solve(&facts, &mut values);
         Effects {
             facts,
-            reach: 0,
             normal: values,
             manual: values,
             requests: plan.requests(panel, &values, &values),
@@ -55,36 +49,26 @@ impl Effects {
         ensures steps { RisesByChanges plan.now facts.now self.old steps.old steps.new }
         ensures ruled { RisesByFactsOfRun plan.now panel facts.now self.old steps.old steps.new }
     {
-        self.turn_within(plan, panel, facts, 8, steps);
+        if self.facts == *facts {
+            return;
+        }
+        self.turn_over(plan, panel, facts, steps);
     }
 
-    // Makes a turn over facts that have zones of the first so many panels alone, which is their reach.
-    fn turn_within<L: Ledger>(
-        &mut self,
-        plan: &Plan,
-        panel: u8,
-        facts: &Facts,
-        reach: u8,
-        steps: &mut Steps<L>,
-    )
-        requires few { reach ≤ most_panels }
-        requires within { HaveZonesOfFirst reach facts.now }
+    // Makes a turn over facts that may be other ones than those of the turn before. It isn't inlined, since nearly all
+    // turns are made over the same ones.
+    #[inline(never)]
+    fn turn_over<L: Ledger>(&mut self, plan: &Plan, panel: u8, facts: &Facts, steps: &mut Steps<L>)
         ensures stands { MakesEffectTurn plan.now panel facts.now self.old self.new }
         ensures steps { RisesByChanges plan.now facts.now self.old steps.old steps.new }
         ensures ruled { RisesByFactsOfRun plan.now panel facts.now self.old steps.old steps.new }
     {
-        if self.facts == *facts {
-            return;
-        }
         let hand_before = by_hand(&self.facts);
         let hand = by_hand(facts);
         plan.solve_changed(&self.facts, facts, &mut self.normal, steps);
         plan.solve_changed(&hand_before, &hand, &mut self.manual, steps);
         self.requests = plan.requests(panel, &self.normal, &self.manual);
-        // While the facts are replaced they may have zones of any panel.
-        self.reach = 8;
         self.facts = *facts;
-        self.reach = reach;
     }
 
     /// Makes a turn over what the words tell that the panel keeps of the panels of the ring. Each marker that is
@@ -102,10 +86,7 @@ impl Effects {
         ensures stands { TurnsByWords plan.now ring.now panel self.old self.new }
         ensures steps { RisesByWords plan.now ring.now panel self.old steps.old steps.new }
     {
-        if !are_heard(&self.facts, self.reach, ring, panels, panel) {
-            let facts = facts_heard(ring, panels, panel);
-            self.turn_within(plan, panel, &facts, panels, steps);
-        }
+        self.turn(plan, panel, facts_heard(ring, panel), steps);
     }
 
     /// The outputs of the panel that the latest turn asks for, and those that it asks for by hand.
@@ -121,6 +102,14 @@ impl Effects {
     {
         &self.facts.zones
     }
+}
+
+// The facts that a turn of Effect of a panel made now goes by.
+fn facts_heard(ring: &Ring, panel: u8) -> &Facts
+    requires { HasPanel ring.now panel }
+    ensures { TellsFacts ring.now panel result.now }
+{
+    ring.facts(panel)
 }
 
 // What counts by hand: zones where a manual call point did it, and no faults.

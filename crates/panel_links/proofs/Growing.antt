@@ -71,12 +71,7 @@ has_room flag last from mask few more has =
     let seven : 2 ^ (last + 1 - from) ≤ 2 ^ 7 = pow_mono {i = last + 1 - from} {j = 7} (omega (arith, few, more)) in
     omega (arith, fits, seven)
 
--- once the first flag is in, each has its bit, and there is no other
-pub has_each : (flag : ℕ → Bool) (last mask q : ℕ) → HasFlags flag last 1 mask → 1 ≤ q → q ≤ last → has_bit mask (q - 1) ≡ flag q
-has_each flag last mask q has low high =
-    let here : q - 1 + 1 ≡ q = omega (arith, low) in
-    has.known (q - 1) (omega (arith, low, high)) ∙ ap flag here
-
+-- once the first flag is in, there is no bit after the last one
 pub has_no_other : (flag : ℕ → Bool) (last mask k : ℕ) → HasFlags flag last 1 mask → last ≤ k → has_bit mask k ≡ false
 has_no_other flag last mask k has beyond = has_bit-above (last + 1 - 1) mask k has.fits (omega (arith, beyond))
 

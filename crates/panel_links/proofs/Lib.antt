@@ -1,5 +1,7 @@
 -- words read and written in the table of what panels keep
 pub mod Places
+-- facts that follow the words
+pub mod FactsTold
 -- a turn, and that turn by turn the newest word over all chains is kept
 pub mod Turns
 pub mod Newest

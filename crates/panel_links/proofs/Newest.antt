@@ -1,11 +1,24 @@
 -- Words of a group taken one by one, each the newest of three.
-use Rattle.std.proofs.Common.{◌≡◌, ◌≢◌, ◌∙◌, ℕ, ◌+◌, ◌≤◌, ◌==◌, ◌&&◌, ◌||◌, Bool, nat_le, nat_lt, true, false, if◌then◌else◌, inl, inr}
+use Rattle.std.proofs.Common.{◌≡◌, ◌≢◌, ◌∙◌, ℕ, ◌+◌, ◌-◌, ◌*◌, ◌/◌, ◌≤◌, ◌==◌, ◌&&◌, ◌||◌, Bool, nat_le, nat_lt, true, false, if◌then◌else◌, inl, inr}
 use Rattle.std.proofs.Common.{refl, sym, ap, arith}
 use Rattle.std.proofs.lemmas.Bool.{and_left, and_right, cases_eq, eq-eqb, le-leb, le-ltb, lt-ltb, ne_eqb}
+use Rattle.std.proofs.lemmas.Bool.Decides.{leb_tells}
 use Rattle.site_types.specs.declared.word.Word.{Word}
 use Rattle.site_types.proofs.Done.{lt_tells}
 use Rattle.panel_links.specs.Kept.{HasZonesOf, newest}
 use Rattle.panel_links.proofs.Turns.{InRing}
+
+-- the panels of a group
+pub in_group : (group o end : ℕ) → 1 ≤ o → end ≡ 4 * group + 1 + 4 → (nat_le (4 * group + 1) o && nat_lt o end) ≡ (((o - 1) / 4) == group)
+in_group group o end low ends = elim (leb_tells (4 * group + 1) o) [
+  | inr t ↦ (let less = t.1 in
+      and_left (nat_le (4 * group + 1) o) (nat_lt o end) t.0 ∙ sym (ne_eqb ((o - 1) / 4) group (λ e. absurd (omega (arith, e, less, low)))))
+  | inl t ↦ elim (lt_tells o end) [
+    | inr u ↦ (let more = u.1 in
+        and_right (nat_le (4 * group + 1) o) (nat_lt o end) u.0 ∙ sym (ne_eqb ((o - 1) / 4) group (λ e. absurd (omega (arith, e, more, ends)))))
+    | inl u ↦ (let first = t.1 in let last = u.1 in rw (t.0, u.0) (sym (eq-eqb ((o - 1) / 4) group (omega (arith, first, last, ends)))))
+  ]
+]
 
 pub has_zones_then : {word middle other : Word} → HasZonesOf word middle → HasZonesOf middle other → HasZonesOf word other
 has_zones_then later earlier = record { alarm = later.alarm ∙ earlier.alarm; first = later.first ∙ earlier.first }

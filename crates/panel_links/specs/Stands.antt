@@ -1,12 +1,14 @@
 -- What a ring keeps of the calls that were made.
-use Rattle.std.specs.Prelude.{◌≡◌, ℕ, ◌-◌, ◌≤◌, ◌&&◌, ◌||◌, ◌==◌, nat_le, nat_lt, not, Bool, List, []}
+use Rattle.std.specs.Prelude.{◌≡◌, ℕ, ◌-◌, ◌≤◌, ◌<◌, ◌&&◌, ◌||◌, ◌==◌, nat_le, nat_lt, not, Bool, List, []}
 use Rattle.std.specs.Prelude.{slice_index_or}
 use Rattle.site_types.specs.declared.word.Word.{Word}
+use Rattle.marker_table.specs.declared.facts.Facts.{Facts}
 use Rattle.panel_links.specs.declared.ring.Ring.{Ring}
 use Rattle.panel_links.specs.Words.{Call, is_up, left_of}
 use Rattle.site_types.specs.Bits.{has_bit}
 use Rattle.site_types.specs.Words.{empty_word}
 use Rattle.panel_links.specs.Kept.{kept_word, newest}
+use Rattle.panel_links.specs.Told.{AreOfEight, TellWord}
 
 -- a number of the ring's panels
 abbrev pub HasPanel : Ring → ℕ → Type 0
@@ -23,6 +25,13 @@ newest_of ring at left right of = newest (newest (kept_in ring at of) (kept_in r
 -- whether a link is up
 abbrev pub is_up_in : Ring → ℕ → Bool
 is_up_in ring link = not (has_bit ring.down (link - 1))
+
+-- facts are what the words that a panel keeps tell of the ring's panels. Of other panels they have no more than the
+-- word of a panel of which nothing was heard tells
+pub record TellKept (ring : Ring) (at : ℕ) (facts : Facts) : Type 0 where
+  pub eight : AreOfEight facts
+  pub each : (of : ℕ) → HasPanel ring of → TellWord of (kept_in ring at of) facts
+  pub none : (of : ℕ) → ring.panels < of → of ≤ 8 → TellWord of empty_word facts
 
 -- a ring of so many panels stands for the calls, the newest first
 pub record StandsFor (panels : ℕ) (calls : List Call) (ring : Ring) : Type 0 where

@@ -8,12 +8,15 @@
 //!
 //! Begin with [`Ring`], which has what every panel keeps of every other. [`Ring::turn`] makes the turn of a
 //! panel, [`Ring::telling_turn`] tells besides whether zones of others changed by it; where panels are apart,
-//! [`Ring::frame`] is what one sends and [`Ring::receive`] what the other makes of it. No call takes memory, and
-//! a turn looks at twelve words, and in each sixteenth tick at eight more.
+//! [`Ring::frame`] is what one sends and [`Ring::receive`] what the other makes of it. [`Ring::facts`] has what the
+//! words tell that a panel keeps: the ring keeps it beside them, and mends it where a word tells something else than
+//! the one before. No call takes memory, and a turn looks at twelve words, and in each sixteenth tick at eight more.
 #![tactic(auto)]
 
 mod frame;
+mod keeping;
 mod ring;
+mod told;
 
 pub use frame::Frame;
 pub use ring::Ring;

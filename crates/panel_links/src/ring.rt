@@ -6,8 +6,11 @@ ghost use Rattle.site_types.specs.Words.{empty_word};
 ghost use Rattle.panel_links.specs.Words.{group_of, left_of, right_of};
 ghost use Rattle.panel_links.specs.Kept.{HasZonesOf, NoneOlder, kept_word, newest};
 ghost use Rattle.panel_links.specs.Frames.{after_frame, frame_of};
+ghost use Rattle.panel_links.specs.Told.{HaveEight, NoneBeyond, TellTable};
 
 use crate::frame::Frame;
+use crate::told::newer;
+use marker_table::Facts;
 use site_types::{Word, has_bit_8, with_bit_8};
 use tick_units::Tick;
 
@@ -18,18 +21,23 @@ pub struct Ring {
     /// The links that are down, by bit `link - 1`.
     down: u8,
     /// By the panel that keeps and the panel whose word it is, panel 1 being the first.
-    words: [[Word; 8]; 8],
+    pub(crate) words: [[Word; 8]; 8],
     /// By panel, a tick that no word which it keeps is older than.
-    oldest: [u64; 8],
+    pub(crate) oldest: [u64; 8],
+    /// By panel, what the words that it keeps tell.
+    pub(crate) facts: [Facts; 8],
     ghost some: { 1 ≤ panels },
     ghost few: { panels ≤ 8 },
     ghost none_older: { NoneOlder panels words oldest },
+    ghost none_beyond: { NoneBeyond panels words },
+    ghost told: { TellTable panels words facts },
+    ghost eight: { HaveEight panels facts },
     ghost wide: { (k : ℕ) → k < 8 → length (slice_index_or words k []) ≡ 8 },
 }
 
 impl Ring {
     ghost use Rattle.panel_links.specs.Changes.{KeepsNewest, KeepsZones, TakesNewest, TakesNewestOf};
-    ghost use Rattle.panel_links.specs.Stands.{HasPanel, StandsFor, is_down_at, is_silent, is_up_in, kept_in};
+    ghost use Rattle.panel_links.specs.Stands.{HasPanel, StandsFor, TellKept, is_down_at, is_silent, is_up_in, kept_in};
     ghost use Rattle.panel_links.specs.Stands.{newest_of};
 
     /// A ring of 1 to 8 panels. All links are up, and nothing was heard.
@@ -38,11 +46,17 @@ impl Ring {
         ensures stands { StandsFor panels [] result }
         ensures panels { result.panels ≡ panels }
     {
+        let nothing = Facts {
+            zones: [0; 8],
+            manual: [0; 8],
+            faults: 0,
+        };
         Ring {
             panels,
             down: 0,
             words: [[Word::default(); 8]; 8],
             oldest: [0; 8],
+            facts: [nothing; 8],
         }
     }
 
@@ -111,6 +125,14 @@ impl Ring {
             → OwnStampsRise calls → IsNewest panels of at calls result }
     {
         self.kept(at, of)
+    }
+
+    /// What the words that a panel keeps tell, as facts that markers are solved over.
+    pub fn facts(&self, panel: u8) -> &Facts
+        requires { HasPanel self.now panel }
+        ensures { TellKept self.now panel result.now }
+    {
+        &self.facts[panel as usize - 1]
     }
 
     /// The links of a panel that are down, by bit `link - 1`.
@@ -298,26 +320,6 @@ impl Ring {
         }
     }
 
-    // Takes what another panel keeps of one if it is newer, and tells whether its zones are others.
-    fn take_from(&mut self, at: u8, source: u8, of: u8) -> bool
-        requires at { HasPanel self.old at }
-        requires source { HasPanel self.old source }
-        requires from { (1 ≤ of) × (of ≤ 8) }
-        ensures words { KeepsNewest self.old at of (kept_in self.old source of) self.new }
-        ensures zones { result ≡ false
-            ↔ HasZonesOf (newest (kept_in self.old at of) (kept_in self.old source of))
-            (kept_in self.old at of) }
-        ensures panels { self.new.panels ≡ self.old.panels }
-        ensures links { self.new.down ≡ self.old.down }
-    {
-        if self.kept(at, of).stamp.0 >= self.kept(source, of).stamp.0 {
-            return false;
-        }
-        let differ = has_other_zones(&self.kept(source, of), &self.kept(at, of));
-        self.words[at as usize - 1][of as usize - 1] = self.kept(source, of);
-        differ
-    }
-
     // The group of panels whose words a tick carries.
     fn group(&self, now: Tick) -> u8
         ensures { result ≡ group_of self.now.panels now.0 }
@@ -355,44 +357,4 @@ impl Ring {
             Word::default()
         }
     }
-
-    fn kept(&self, at: u8, of: u8) -> Word
-        requires at { HasPanel self.now at }
-        requires from { (1 ≤ of) × (of ≤ 8) }
-        ensures { result ≡ kept_in self.now at of }
-    {
-        self.words[at as usize - 1][of as usize - 1]
-    }
-
-    fn keep(&mut self, at: u8, of: u8, word: Word)
-        requires at { HasPanel self.old at }
-        requires from { (1 ≤ of) × (of ≤ 8) }
-        ensures words { (a o : ℕ) → HasPanel self.old a → HasPanel self.old o
-            → kept_in self.new a o
-            ≡ (if (a == at) && (o == of) then word else kept_in self.old a o) }
-        ensures panels { self.new.panels ≡ self.old.panels }
-        ensures links { self.new.down ≡ self.old.down }
-    {
-        let place = at as usize - 1;
-        let source = of as usize - 1;
-        self.words[place][source] = word;
-        self.oldest[place] = self.oldest[place].min(self.words[place][source].stamp.0);
-    }
-}
-
-// The newer of two words by stamp; of two of one stamp the first.
-fn newer(kept: Word, other: Word) -> Word
-    ensures { result ≡ newest kept other }
-{
-    if kept.stamp.0 < other.stamp.0 {
-        other
-    } else {
-        kept
-    }
-}
-
-fn has_other_zones(word: &Word, kept: &Word) -> bool
-    ensures { result ≡ false ↔ HasZonesOf word.now kept.now }
-{
-    word.alarm != kept.alarm || word.first != kept.first
 }

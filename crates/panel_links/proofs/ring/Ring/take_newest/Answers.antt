@@ -1,9 +1,9 @@
-use Rattle.std.proofs.Common.{◌≡◌, ◌∙◌, ◌+◌, ◌*◌, ◌≤◌, ◌==◌, ◌&&◌, ℕ, false, if◌then◌else◌, refl, sym, arith}
+use Rattle.std.proofs.Common.{◌≡◌, ◌∙◌, ◌+◌, ◌-◌, ◌*◌, ◌/◌, ◌≤◌, ◌==◌, ◌&&◌, ℕ, false, if◌then◌else◌, refl, sym, ap, arith}
 use Rattle.std.proofs.lemmas.Bool.{or_parts}
 use Rattle.panel_links.specs.Changes.{KeepsZones}
 use Rattle.panel_links.specs.Kept.{newest}
 use Rattle.panel_links.specs.Stands.{kept_in}
-use Rattle.panel_links.proofs.Newest.{not_both, one_more, same_zones, stays_down, were_same, word_same}
+use Rattle.panel_links.proofs.Newest.{in_group, not_both, one_more, same_zones, stays_down, were_same, word_same}
 use Rattle.panel_links.proofs.Turns.{InRing}
 use Rattle.panel_links.proofs.ring.Ring.take_newest.Goals as goal
 use Rattle.panel_links.proofs.ring.Ring.take_newest.Goals.{then-take_newer, else-take_newer}
@@ -55,3 +55,15 @@ loop-of-preserved c =
         | else-take_newer w ↦ λ are. w.differ-is ∙ earlier are
       ];
     }
+
+pub returns-clause-words : goal.returns-clause-words
+returns-clause-words c a o ha ho =
+    let start = kept_in c.args.self.now in
+    let best = newest (newest (start a o) (start c.args.left o)) (start c.args.right o) in
+    let group = c.group.result in
+    let ended = c.loop-of-test.false in
+    let last = c.loop-of.auto in
+    c.loop-of.invariant.words a o ha ho
+    ∙ ap (λ b. if (a == c.args.at) && b then best else start a o)
+    (in_group group o c.loop-of.of ho.0 (omega (arith, ended, last)))
+    ∙ ap (λ g. if (a == c.args.at) && (((o - 1) / 4) == g) then best else start a o) c.group.ensures

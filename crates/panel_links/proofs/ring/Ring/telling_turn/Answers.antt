@@ -1,8 +1,10 @@
-use Rattle.std.proofs.Common.{◌≡◌, ◌∙◌, ◌-◌, ◌<◌, ◌≤◌, if◌then◌else◌, ap, arith}
+use Rattle.std.proofs.Common.{◌≡◌, ◌∙◌, ◌-◌, ◌<◌, ◌≤◌, ◌==◌, if◌then◌else◌, ap, sym, arith}
+use Rattle.std.proofs.lemmas.Bool.{and_right, ne_eqb}
 use Rattle.std.specs.Prelude.{not}
 use Rattle.site_types.specs.Bits.{has_bit}
 use Rattle.panel_links.specs.Words.{left_of, right_of}
-use Rattle.panel_links.specs.Stands.{is_up_in, kept_in}
+use Rattle.panel_links.specs.Stands.{HasPanel, is_up_in, kept_in}
+use Rattle.panel_links.proofs.Newest.{has_zones_equal, has_zones_then}
 use Rattle.panel_links.proofs.Turns.{InRing, left_in, turned}
 use Rattle.panel_links.proofs.ring.Ring.telling_turn.Goals as goal
 
@@ -42,3 +44,23 @@ returns-clause-stands c panels calls stands =
           λ link low high. ap (λ down. not (has_bit down (link - 1)))
           (c.take_newest.ensures.links ∙ l1) ∙ stands.links link low high;
     }
+
+pub returns-clause-zones : goal.returns-clause-zones
+returns-clause-zones c none of ho apart =
+    let panel = c.args.panel in
+    let before = kept_in c.args.self.now in
+    let p1 = c.renew_oldest.ensures.panels ∙ c.keep.ensures.panels in
+    has_zones_then (c.take_newest.ensures.zones.0 none of (ho.0, omega (arith, ho.1, p1)) apart)
+    (has_zones_equal (c.renew_oldest.ensures.words panel of ∙ c.keep.ensures.words panel of c.requires ho
+    ∙ ap (λ b. if b then c.args.own else before panel of) (and_right (panel == panel) (of == panel) (ne_eqb of panel apart))))
+
+pub returns-clause-same : goal.returns-clause-same
+returns-clause-same c keeps =
+    let panel = c.args.panel in
+    let before = kept_in c.args.self.now in
+    let p1 = c.renew_oldest.ensures.panels ∙ c.keep.ensures.panels in
+    c.take_newest.ensures.zones.1 (λ of hm apart. (
+    let ho : HasPanel c.args.self.now of = (hm.0, omega (arith, hm.1, p1)) in
+    has_zones_then (keeps of ho apart)
+    (has_zones_equal (sym (c.renew_oldest.ensures.words panel of ∙ c.keep.ensures.words panel of c.requires ho
+    ∙ ap (λ b. if b then c.args.own else before panel of) (and_right (panel == panel) (of == panel) (ne_eqb of panel apart)))))))
