@@ -74,11 +74,10 @@ impl System {
         ensures same { self.new.changed ≡ self.old.changed }
         ensures steps { CountsTurn self.old panel Effect steps.old steps.new }
     {
-        let panels = self.site.panels;
         let parts = &mut self.panels[panel as usize - 1];
         parts
             .effects
-            .turn_by_words(&self.plan, &self.ring, panels, panel, steps);
+            .turn_by_words(&self.plan, &self.ring, panel, steps);
     }
 
     // Drive, with the outputs that are disabled.

@@ -77,12 +77,10 @@ impl Effects {
         &mut self,
         plan: &Plan,
         ring: &Ring,
-        panels: u8,
         panel: u8,
         steps: &mut Steps<L>,
     )
-        requires size { ring.now.panels ≡ panels }
-        requires member { HasPanel ring.now panel }
+        requires { HasPanel ring.now panel }
         ensures stands { TurnsByWords plan.now ring.now panel self.old self.new }
         ensures steps { RisesByWords plan.now ring.now panel self.old steps.old steps.new }
     {

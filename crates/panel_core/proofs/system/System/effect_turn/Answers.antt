@@ -1,5 +1,4 @@
-use Rattle.std.proofs.Common.{◌∙◌, ap, arith, sym}
-use Rattle.site_types.specs.declared.site.Site.{Site}
+use Rattle.std.proofs.Common.{arith}
 use Rattle.hold_calls.specs.Told.{told_in_ring}
 use Rattle.panel_parts.specs.Applied.{applied}
 use Rattle.panel_parts.proofs.Panels.{after_effect}
@@ -12,11 +11,8 @@ overflow_sub-panel g c = c.requires.member.0
 pub index_mut-parts-requires : goal.index_mut-parts-requires
 index_mut-parts-requires g c = let there = place_there c.requires in omega (arith, there)
 
-pub turn_by_words-requires-clause-size : goal.turn_by_words-requires-clause-size
-turn_by_words-requires-clause-size g c = let r = c.requires.stands in r.ring.size ∙ ap (λ (s : Site). s.panels) (sym r.same)
-
-pub turn_by_words-requires-clause-member : goal.turn_by_words-requires-clause-member
-turn_by_words-requires-clause-member g c = ring_there c.requires
+pub turn_by_words-requires : goal.turn_by_words-requires
+turn_by_words-requires g c = ring_there c.requires
 
 pub returns-clause-turn : goal.returns-clause-turn
 returns-clause-turn g c site kept before h run =
