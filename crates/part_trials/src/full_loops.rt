@@ -3,25 +3,29 @@
 ghost use Rattle.std.specs.Prelude.{◌≤◌};
 
 use crate::polling::{answers_at, poller_of};
+use answer_lanes::blocks_of_panel;
 use anyhow::{Result, bail};
 use site_config::read_site;
+use site_types::Site;
 use std::alloc::Global;
 use trial_cases::Lines;
 
 /// In each tick of two rounds those points answer of whose address less 1 the eighth part is the tick within
-/// its round, in order of loop, then address.
+/// its round, in order of loop, then address. Where the site lists the points in that order, each tick's are a block.
 pub(crate) fn ask_full_loops(alloc: Global, last: &str) -> Result<String> {
     match last {
-        "96" => ask_rounds(alloc, 1, 96, 12),
-        "192" => ask_rounds(alloc, 2, 192, 24),
+        "96" => ask_rounds(alloc, 1, 96, 12, false),
+        "192" => ask_rounds(alloc, 2, 192, 24, false),
+        "96 rising" => ask_rounds(alloc, 1, 96, 12, true),
+        "192 rising" => ask_rounds(alloc, 2, 192, 24, true),
         _ => bail!("a loop ends at 96 or at 192"),
     }
 }
 
-fn ask_rounds(alloc: Global, format: u8, last: u8, round: u64) -> Result<String>
+fn ask_rounds(alloc: Global, format: u8, last: u8, round: u64, rising: bool) -> Result<String>
     requires { (1 ≤ round) × (round ≤ 24) }
 {
-    let text = full_site(alloc, format, last)?;
+    let text = full_site(alloc, format, last, rising)?;
     let Ok(site) = read_site(alloc, text.as_bytes()) else {
         bail!("a refused site");
     };
@@ -36,9 +40,18 @@ fn ask_rounds(alloc: Global, format: u8, last: u8, round: u64) -> Result<String>
     }
     if lines.is_empty() {
         lines.count("    each address once in a round of ", round);
-        lines.say(" ticks\n");
+        lines.count(" ticks, in blocks: ", count_blocks(alloc, &site)?);
+        lines.say("\n");
     }
     lines.done()
+}
+
+// In how many of the round's ticks the points that are asked are known as a block.
+fn count_blocks(alloc: Global, site: &Site) -> Result<u64> {
+    match blocks_of_panel(alloc, site.points.as_slice(), 1) {
+        Ok(blocks) => Ok(blocks.len() as u64),
+        Err(_) => bail!("no memory"),
+    }
 }
 
 fn wanted_at(alloc: Global, last: u8, within: u64) -> Result<String> {
@@ -55,8 +68,9 @@ fn wanted_at(alloc: Global, last: u8, within: u64) -> Result<String> {
     lines.done()
 }
 
-// A site with a point at each address of four loops of a panel, the last address of the last loop first.
-fn full_site(alloc: Global, format: u8, last: u8) -> Result<String> {
+// A site with a point at each address of four loops of a panel, in the order of loops and addresses, or the last
+// address of the last loop first.
+fn full_site(alloc: Global, format: u8, last: u8, rising: bool) -> Result<String> {
     let mut lines = Lines::new(alloc);
     lines.count("format = ", format as u64);
     lines.say("\nsite = \"full\"\npanels = 1\n");
@@ -66,12 +80,28 @@ fn full_site(alloc: Global, format: u8, last: u8) -> Result<String> {
         lines.count("\nlast = ", last as u64);
         lines.say("\n");
     }
-    for line in (1..5).rev() {
-        for address in (1..=last).rev() {
-            say_point(&mut lines, line, address as u64);
-        }
+    if rising {
+        say_rising(&mut lines, last);
+    } else {
+        say_falling(&mut lines, last);
     }
     lines.done()
+}
+
+fn say_rising(lines: &mut Lines, last: u8) {
+    for line in 1..5 {
+        for address in 1..=last {
+            say_point(lines, line, address as u64);
+        }
+    }
+}
+
+fn say_falling(lines: &mut Lines, last: u8) {
+    for line in (1..5).rev() {
+        for address in (1..=last).rev() {
+            say_point(lines, line, address as u64);
+        }
+    }
 }
 
 fn say_point(lines: &mut Lines, line: u64, address: u64) {
