@@ -21,6 +21,7 @@ use Rattle.coincidence.specs.declared.zone_watch.ZoneWatch.{ZoneWatch}
 use Rattle.coincidence.specs.declared.decide.Decide.{Decide}
 use Rattle.coincidence.specs.Parts.{switch_after}
 use Rattle.tick_units.specs.LastTicks.{last_if}
+use Rattle.coincidence.specs.ZoneMasks.{TellZonesOf}
 use Rattle.coincidence.specs.Stands.{resets, moves, set_in, TellsSetting, WatchesPoint, WatchesZone, IsOwnZone, DecidesFor}
 use Rattle.coincidence_rules.proofs.LastDone.{told_last}
 use Rattle.coincidence_rules.specs.Applied.{NoneIn, TellsLast}
@@ -149,6 +150,7 @@ pub record IsAfter (at : Tick) (panel : ℕ) (operation : Operation) (old next :
       → (was : ZoneWatch) × (slice_get old.zones.items place ≡ Some was) × (watch ≡ zone_then at panel operation place was)
   pub reset : next.reset ≡ last_if (resets panel (done_now at panel operation)) at old.reset
   pub going_on : next.going_on ≡ old.going_on
+  pub told : next.told.blocks.items ≡ old.told.blocks.items
 
 pub stands_after : (site : Site) (kept : Retained) (panel : ℕ) (done : List Done) (taken : List Answer) (old next : Decide) (at : Tick) (operation :
     Operation) → DecidesFor site kept panel done taken old → MayApply site panel done taken operation at.0
@@ -182,6 +184,7 @@ stands_after site kept panel done taken old next at operation stands may none af
           none_going next.going_on (omega (arith, points, places, room)) (subst HasNone (sym after.going_on) none);
       order = stands.order;
       own = stands.own;
+      told = subst (TellZonesOf site.points site.zones) (sym after.told) stands.told;
     }
 
 -- a switch was last set before the tick

@@ -16,6 +16,7 @@ use Rattle.coincidence.specs.Parts.{switch_begun, point_from, zone_from}
 use Rattle.tick_units.specs.LastTicks.{never_done}
 use Rattle.answer_lanes.specs.Places.{HasFirst}
 use Rattle.coincidence_rules.proofs.Lists.{get_small}
+use Rattle.coincidence.specs.ZoneMasks.{TellZonesOf}
 use Rattle.coincidence.specs.Stands.{TellsSetting, WatchesPoint, WatchesZone, DecidesFor}
 use Rattle.coincidence_rules.specs.Applied.{TellsLast}
 
@@ -72,8 +73,9 @@ module _ (site : Site) (kept : Retained) where
 
   pub stands_begun : IsValid site → (panel : ℕ) (decide : Decide) → decide.panel ≡ panel → decide.points ≡ map (point_from kept) site.points
       → decide.zones.items ≡ map (zone_from kept) site.zones → decide.reset ≡ never_done
-      → HasFirst (length site.points) false decide.going_on → DecidesFor site kept panel [] [] decide
-  stands_begun valid panel decide at points zones reset none = record {
+      → HasFirst (length site.points) false decide.going_on → TellZonesOf site.points site.zones decide.told.blocks.items
+      → DecidesFor site kept panel [] [] decide
+  stands_begun valid panel decide at points zones reset none told = record {
     wired = wired_of site valid;
     at = at;
     point_count = ap length points ∙ length_map (point_from kept) site.points;
@@ -95,4 +97,5 @@ module _ (site : Site) (kept : Retained) where
         };
     order = record { rising = λ i j a b le f g. cc; once = λ i j a b f g p s. cc };
     own = λ k a is. cc;
+    told = told;
   }

@@ -13,15 +13,16 @@ use Rattle.answer_lanes.specs.Blocks.{eight_of}
 use Rattle.answer_lanes.specs.Places.{has_place}
 use Rattle.answer_lanes.specs.Points.{answer_at}
 use Rattle.answer_lanes.specs.Words.{AreBitsOf, AreEights}
-use Rattle.answer_lanes.proofs.MaskBits.{lt_is, matches, set_below}
+use Rattle.answer_lanes.proofs.MaskBits.{lt_is, matches}
+use Rattle.coincidence_rules.specs.Counted.{is_silent}
 use Rattle.coincidence_rules.proofs.Lists.{and_both}
 use Rattle.coincidence.specs.declared.decide.Decide.{Decide}
 use Rattle.coincidence.specs.declared.point_watch.PointWatch.{PointWatch}
-use Rattle.coincidence.specs.GoingOn.{AreGoingOnIn, IsMarkedAlarm}
+use Rattle.coincidence.specs.GoingOn.{AreGoingOnIn}
 use Rattle.coincidence.specs.Parts.{is_at_rest, stays_missing}
 use Rattle.coincidence.specs.Places.{TellsEights}
 use Rattle.coincidence.specs.Resting.{LeavesPoint, TellsChanging}
-use Rattle.coincidence.specs.Steady.{AreStillIn, HasNumberedPoints, IsQuietBlock, TellChanging, all_of_eight}
+use Rattle.coincidence.specs.Steady.{AreLeftIn, AreSilentIn, AreStillIn, HasNumberedPoints, IsQuietBlock, all_of_eight}
 use Rattle.coincidence.proofs.GoingOn.{bits_among}
 use Rattle.coincidence.proofs.PlaceSets.{ones_have}
 use Rattle.coincidence.proofs.Steady.{all_four, none_changing}
@@ -35,18 +36,14 @@ not_is : (kept : Bool) → not kept ≡ false → kept ≡ true
 not_is true e = refl
 not_is false e = absurd (cc)
 
--- bytes of which the bits are those that a word of the answers that leave their points doesn't have
-pub tell_by_still : (decide : Decide) (block : AnswerBlock) (still : ℕ) (bytes : List ℕ) → still < 2 ^ 32 → AreStillIn decide block still
-    → ((number : ℕ) → number < 4 → slice_index bytes number < 2 ^ 8) → AreBitsOf bytes (bit_not w32 still) → TellChanging decide block bytes
-tell_by_still decide block still bytes fits stills small_bytes are number less = record {
-  within = λ k set_bit. set_below (slice_index bytes number) k (small_bytes number less) set_bit;
-  left = λ k small clear.
-      let here : k ≡ 0 + k = omega arith in
-      subst (λ n. LeavesPoint decide (answer_at (eight_of block number) n)) here
-      (stills number k less small
-      (not_is (has_bit still (8 * number + k))
-      (sym (has_bit-not w32 still (8 * number + k) fits (in_word number k less small)) ∙ are number k less small ∙ clear)));
-}
+-- where a word of the answers that leave their points has all bits they all do
+pub all_left_in : (decide : Decide) (block : AnswerBlock) (still : ℕ) → still < 2 ^ 32 → AreStillIn decide block still → bit_not w32 still ≡ 0
+    → AreLeftIn decide block
+all_left_in decide block still fits stills none number k less small =
+    let place = 8 * number + k in
+    stills number k less small
+    (not_is (has_bit still place)
+    (sym (has_bit-not w32 still place fits (in_word number k less small)) ∙ ap (λ n. has_bit n place) none ∙ has_bit-zero place))
 
 -- ---- which answers leave their points
 
@@ -102,10 +99,12 @@ module _ (decide : Decide) (block : AnswerBlock) (numbers : HasNumberedPoints bl
 
 -- where all four eights are at rest, quiet answers leave their points
 pub all_at_rest : (decide : Decide) (block : AnswerBlock) → HasNumberedPoints block → IsQuietBlock block → (resting : ℕ) → resting ≡ 4294967295
-    → TellsEights is_at_rest decide.points block.firsts resting → TellChanging decide block (0 ∷ 0 ∷ 0 ∷ 0 ∷ [])
-all_at_rest decide block numbers quiets resting all rests =
-    all_four (λ n. TellsChanging decide (all_of_eight (eight_of block n)) (slice_index (0 ∷ 0 ∷ 0 ∷ 0 ∷ []) n)) (one 0 (omega arith) refl refl)
-    (one 1 (omega arith) refl refl) (one 2 (omega arith) refl refl) (one 3 (omega arith) refl refl)
+    → TellsEights is_at_rest decide.points block.firsts resting → AreLeftIn decide block
+all_at_rest decide block numbers quiets resting all rests number k less small =
+    let here : 0 + k ≡ k = omega arith in
+    let each = all_four (λ n. TellsChanging decide (all_of_eight (eight_of block n)) 0) (one 0 (omega arith) refl refl) (one 1 (omega arith) refl refl)
+    (one 2 (omega arith) refl refl) (one 3 (omega arith) refl refl) in
+    subst (λ n. LeavesPoint decide (answer_at (eight_of block number) n)) here ((each number less).left k small (has_bit-zero k))
   where
     one : (number : ℕ) → number < 4 → slice_index (0 ∷ 0 ∷ 0 ∷ 0 ∷ []) number ≡ 0 → slice_index (0 ∷ 0 ∷ 0 ∷ 0 ∷ []) number ≡ 0
         → TellsChanging decide (all_of_eight (eight_of block number)) 0
@@ -117,31 +116,40 @@ all_at_rest decide block numbers quiets resting all rests =
         ∙ sym (ap (λ m. has_bit m (8 * number + k)) all ∙ ap (λ b. b == 1) (bit_at_ones 32 (8 * number + k) (in_word number k less small)))
         ∙ rests number k watch less small there)
 
+-- bytes of which the bits are those of the silent answers that are no alarms
+pub silent_bytes : (block : AnswerBlock) (alarms silents : ℕ) (bytes : List ℕ) → alarms < 2 ^ 32 → AreBitsOf block.alarms alarms
+    → AreBitsOf block.silents silents → AreBitsOf bytes (bit_and silents (bit_not w32 alarms)) → AreSilentIn block bytes
+silent_bytes block alarms silents bytes fits are_alarms are_silents are number k less small =
+    let place = 8 * number + k in
+    sym (are number k less small) ∙ has_bit-and silents (bit_not w32 alarms) place
+    ∙ ap (λ b. has_bit silents place && b) (has_bit-not w32 alarms place fits (in_word number k less small))
+    ∙ ap (λ b. b && not (has_bit alarms place)) (are_silents number k less small)
+    ∙ ap (λ b. has_bit (slice_index block.silents number) k && not b) (are_alarms number k less small)
+    ∙ heard_silent (has_bit (slice_index block.alarms number) k) (has_bit (slice_index block.silents number) k)
+  where
+    heard_silent : (alarm silent : Bool) → (silent && not alarm) ≡ is_silent (if alarm then Alarm else if silent then Silent else Quiet)
+    heard_silent true true = refl
+    heard_silent true false = refl
+    heard_silent false true = refl
+    heard_silent false false = refl
+
 -- ---- which answers are alarms that go on
 
 -- the answers of which the bits of a word tell are alarms of points whose alarms go on, where those have all its bits
-module _ (decide : Decide) (block : AnswerBlock) (numbers : HasNumberedPoints block) (changing : List ℕ) (tells : TellChanging decide block changing)
-    (since : decide.since.0 ≤ block.stamp.0) where
-  pub going_on_in : (word going alarms : ℕ) → alarms < 2 ^ 32 → AreBitsOf changing word → AreEights decide.going_on block.firsts going
-      → AreBitsOf block.alarms alarms → bit_and word (bit_not w32 (bit_and going alarms)) ≡ 0 → AreGoingOnIn decide block changing
-  going_on_in word going alarms fits are_changing are_going are_alarms none number less = record {
-    within = (tells number less).within;
-    marked = λ k small set_bit. subst (λ n. IsMarkedAlarm decide (answer_at (eight_of block number) n)) (here k) (marked k small set_bit);
-    since = since;
-  }
-    where
-      here : (k : ℕ) → k ≡ 0 + k
-      here k = omega arith
-
-      marked : (k : ℕ) → k < 8 → has_bit (slice_index changing number) k ≡ true → IsMarkedAlarm decide (answer_at (eight_of block number) k)
-      marked k small set_bit =
-          let place = 8 * number + k in
-          let eight = eight_of block number in
-          let lower = and_le_r going alarms in
-          let both = and_both (has_bit going place) (has_bit alarms place)
-          (sym (has_bit-and going alarms place)
-          ∙ bits_among w32 word (bit_and going alarms) place (omega (arith, lower, fits)) none (in_word number k less small) (are_changing number k less small ∙ set_bit)) in
-          record {
-            alarm = ap (λ b. if b then Alarm else if has_bit eight.silents k then Silent else Quiet) (sym (are_alarms number k less small) ∙ both.1);
-            has = ap (has_place decide.going_on) (point_is decide eight (numbers number less) k small) ∙ sym (are_going number k less small) ∙ both.0;
-          }
+pub going_on_in : (decide : Decide) (block : AnswerBlock) → HasNumberedPoints block → decide.since.0 ≤ block.stamp.0 → (word going alarms : ℕ)
+    → alarms < 2 ^ 32 → AreEights decide.going_on block.firsts going → AreBitsOf block.alarms alarms
+    → bit_and word (bit_not w32 (bit_and going alarms)) ≡ 0 → AreGoingOnIn decide block word
+going_on_in decide block numbers since word going alarms fits are_going are_alarms none = record {
+  marked = λ number k less small set_bit.
+      let place = 8 * number + k in
+      let eight = eight_of block number in
+      let lower = and_le_r going alarms in
+      let both = and_both (has_bit going place) (has_bit alarms place)
+      (sym (has_bit-and going alarms place)
+      ∙ bits_among w32 word (bit_and going alarms) place (omega (arith, lower, fits)) none (in_word number k less small) set_bit) in
+      record {
+        alarm = ap (λ b. if b then Alarm else if has_bit eight.silents k then Silent else Quiet) (sym (are_alarms number k less small) ∙ both.1);
+        has = ap (has_place decide.going_on) (point_is decide eight (numbers number less) k small) ∙ sym (are_going number k less small) ∙ both.0;
+      };
+  since = since;
+}

@@ -129,4 +129,5 @@ module _ (site : Site) (kept : Retained) (panel : ℕ) (done : List Done) (d : D
     going_on = h.going_on;
     order = h.order;
     own = h.own;
+    told = h.told;
   }

@@ -6,7 +6,7 @@ use Rattle.std.specs.Int.{Width, w8, bit_not}
 use mir.Val.{bits}
 use Rattle.std.proofs.lemmas.Nat.{and_le_l}
 use Rattle.std.proofs.lemmas.List.FromFn.{get_or-map-range_with_len}
-use Rattle.std.proofs.lemmas.Option.{slice_get-get_or}
+use Rattle.std.proofs.lemmas.Option.{get_or_from_slice_get, slice_get-get_or}
 use Rattle.site_types.specs.declared.site.Site.{Site}
 use Rattle.site_types.specs.declared.answer.Answer.{Answer}
 use Rattle.site_types.specs.declared.retained.Retained.{Retained}
@@ -28,7 +28,7 @@ use Rattle.coincidence.specs.declared.decide.Decide.{Decide}
 use Rattle.coincidence.specs.declared.judgement.Judgement.{Judgement}
 use Rattle.coincidence.specs.declared.plain_zone.PlainZone.{PlainZone}
 use Rattle.coincidence.specs.declared.point_watch.PointWatch.{PointWatch}
-use Rattle.coincidence.specs.GoingOn.{AreGoingOn, ConfirmsAgain, IsFrontInZone, IsInZone, telling_of}
+use Rattle.coincidence.specs.GoingOn.{AreGoingOn, ConfirmsAgain, IsFrontInZone, IsInZone, IsMarkedAlarm, telling_of}
 use Rattle.site_types.specs.declared.heard.Heard.TheVariants.{Alarm}
 use Rattle.answer_lanes.specs.Places.{has_place}
 use Rattle.coincidence.specs.Places.{GoesOnFrom}
@@ -39,12 +39,13 @@ use Rattle.coincidence.specs.Parts.{StaysNoted, switch_at}
 use Rattle.coincidence.specs.PlainZones.{IsKnown, IsOfPoint, IsSaidAt}
 use Rattle.coincidence.specs.Premises.{MayTake}
 use Rattle.coincidence.specs.Resting.{IsWithinEight}
+use Rattle.coincidence.specs.ZoneMasks.{IsMaskAt}
 use Rattle.coincidence.specs.Stands.{CanObserve, CanTake, DecidesFor, Fits}
 use Rattle.coincidence.proofs.FindingIs.{HasBit, finding_by}
 use Rattle.coincidence.proofs.PlainAlarms.{plain_alarm_is}
 use Rattle.coincidence.proofs.PlainZones.{gone_on, judged_in, not_silent, point_same, said_of, zone_there}
 use Rattle.coincidence.proofs.Turned.{still_can}
-use Rattle.coincidence.proofs.Watched.{fits_next, read_is, watched}
+use Rattle.coincidence.proofs.Watched.{Watched, fits_next, read_is, watched}
 
 -- ---- each answer of a run can be observed
 
@@ -217,6 +218,46 @@ pub confirms_again : (decide : Decide) (answer : Answer) (zone : ℕ) → GoesOn
 confirms_again decide answer zone on z read zones below bits = record {
   taken = λ site kept panel done taken stands may. stands_again stands answer may zone on;
   found = λ site kept panel done taken stands may. found_again stands answer may zone on z read zones below bits;
+}
+
+-- ---- one of a point of which the site tells the zone
+
+module _ {site : Site} {kept : Retained} {panel : ℕ} {done : List Done} {taken : List Answer} {decide : Decide} (stands :
+    DecidesFor site kept panel done taken decide) (answer : Answer) (may : MayTake site panel done taken (answer ∷ []))
+    (marked : IsMarkedAlarm decide answer) (since : decide.since.0 ≤ answer.stamp.0) where
+  abbrev at_point : Watched site kept panel done taken decide answer.point
+  at_point = watched stands answer.point (fits_next site kept panel done taken answer may).own
+
+  on_again : GoesOnAgain decide answer at_point.watch.zone
+  on_again = record {
+    alarm = marked.alarm;
+    has = marked.has;
+    watch = at_point.watch;
+    read = sym (get_or_from_slice_get decide.points answer.point at_point.watch at_point.watch at_point.is_watch);
+    own = refl;
+    since = since;
+  }
+
+  stands_marked : DecidesFor site kept panel done (taken ++ answer ∷ []) decide
+  stands_marked = stands_again stands answer may at_point.watch.zone on_again
+
+  found_marked : (zones : ℕ) → IsMaskAt site.points site.zones answer.point zones → telling_of zones answer ≡ finding_of site kept panel done taken answer
+  found_marked zones mask =
+      let w = at_point in
+      let read = sym (get_or_from_slice_get decide.zones.items w.point.zone w.zone_watch w.zone_watch w.is_zone_watch) in
+      found_again stands answer may w.watch.zone on_again w.zone_watch (read ∙ ap (λ n. get_or decide.zones.items n w.zone_watch) (sym w.watches.zone)) zones
+      mask.fits
+      (λ k small.
+      mask.bits w.point w.zone w.is_point w.is_zone k small ∙ ap (λ n. if (k + 1) == n then true else false) (sym w.watches_zone.number))
+
+-- an alarm of a point whose alarms go on confirms and releases the zone in which the point stands
+pub confirms_marked : (decide : Decide) (answer : Answer) (zones : ℕ) → IsMarkedAlarm decide answer → decide.since.0 ≤ answer.stamp.0
+    → ((site : Site) (kept : Retained) (panel : ℕ) (done : List Done) (taken : List Answer) → DecidesFor site kept panel done taken decide
+    → IsMaskAt site.points site.zones answer.point zones)
+    → ConfirmsAgain decide answer zones
+confirms_marked decide answer zones marked since mask = record {
+  taken = λ site kept panel done taken stands may. stands_marked stands answer may marked since;
+  found = λ site kept panel done taken stands may. found_marked stands answer may marked since zones (mask site kept panel done taken stands);
 }
 
 -- ---- the answers of a run one after the other

@@ -20,9 +20,9 @@ pub mod Resting
 pub mod RunItems
 pub mod Passed
 pub mod ZoneParts
-pub mod ZoneEights
 pub mod Steady
 pub mod BlockWords
+pub mod ZoneMasks
 -- operations: what is kept after one, by its kind, and that those of other panels change nothing
 pub mod AppliedOperation
 pub mod OperationKinds

@@ -143,4 +143,5 @@ marked_anew h marks since right = record {
   going_on = right;
   order = h.order;
   own = h.own;
+  told = h.told;
 }

@@ -90,6 +90,7 @@ module _ (at : Tick) (panel : ℕ) (operation : Operation) where
       zones = λ place watch there. (watch, there, sym (idle.1 place watch));
       reset = sym (ap (λ b. last_if b at decide.reset) idle.2);
       going_on = refl;
+      told = refl;
     }
 
     zone_after : (z : ℕ) (x y : ZoneWatch) (change : Bool → Bool → ZoneWatch → ZoneWatch) → ChangesZone z change → z < length decide.zones.items
@@ -106,6 +107,7 @@ module _ (at : Tick) (panel : ℕ) (operation : Operation) where
           h.is k w ∙ ap (λ b. change b (z == k) w) (ne_eqb k z apart) ∙ ap (λ b. change false b w) (ne_eqb z k (λ e. apart (sym e))) ∙ h.nothing w);
       reset = sym (ap (λ b. last_if b at decide.reset) h.no_reset);
       going_on = refl;
+      told = refl;
     }
 
     point_after : (p : ℕ) (x y : PointWatch) (change : Bool → PointWatch → PointWatch) → ChangesPoint p change → p < length decide.points
@@ -121,6 +123,7 @@ module _ (at : Tick) (panel : ℕ) (operation : Operation) where
       zones = λ place watch there. (watch, there, sym (h.zones place watch));
       reset = sym (ap (λ b. last_if b at decide.reset) h.no_reset);
       going_on = refl;
+      told = refl;
     }
 
 reset_after : (at : Tick) (panel : ℕ) (decide : Decide) (reset : LastDone) → reset ≡ last_after at decide.reset
@@ -133,6 +136,7 @@ reset_after at panel decide reset e = record {
   zones = λ place watch there. (watch, there, refl);
   reset = e ∙ sym (ap (λ b. last_if b at decide.reset) (eq-eqb panel panel refl));
   going_on = refl;
+  told = refl;
 }
 
 -- an operation of one of these kinds is idle, and one on an output

@@ -1,37 +1,33 @@
 -- Answers that leave all that is kept as it is are told of at once, eight by eight.
 use Rattle.std.proofs.Common.{◌+◌, Bool, ◌≤◌, true, false, not, ◌&&◌, if◌then◌else◌, ◌≡◌, ℕ, zero, suc, ◌<◌, List, [], ◌∷◌, ◌++◌}
-use Rattle.std.proofs.Common.{map, nat_lt, refl, slice_index, slice_index_or, sym, ◌∙◌, ap, subst, arith}
+use Rattle.std.proofs.Common.{map, refl, slice_index, sym, ◌∙◌, ap, subst, arith}
 use Rattle.std.specs.List.{range_with_len}
 use Rattle.tick_units.specs.Lane.{with_put}
 use Rattle.site_types.specs.declared.answer.Answer.{Answer}
 use Rattle.site_types.specs.Bits.{has_bit}
 use Rattle.site_types.specs.declared.heard.Heard.TheVariants.{Alarm, Quiet, Silent}
-use Rattle.tick_units.specs.declared.tick.Tick.{Tick}
 use Rattle.coincidence_rules.specs.Counted.{is_silent}
 use Rattle.coincidence_rules.specs.declared.finding.Finding.{Finding}
 use Rattle.answer_lanes.specs.declared.answer_block.AnswerBlock.{AnswerBlock}
 use Rattle.answer_lanes.specs.declared.answer_group.AnswerGroup.{AnswerGroup}
 use Rattle.answer_lanes.specs.declared.finding_block.FindingBlock.{FindingBlock}
 use Rattle.answer_lanes.specs.declared.finding_eight.FindingEight.{FindingEight}
-use Rattle.answer_lanes.specs.declared.finding_group.FindingGroup.{FindingGroup}
 use Rattle.answer_lanes.specs.declared.run.Run.{Run}
-use Rattle.answer_lanes.specs.Blocks.{block_answer_at, eight_finding_at, eight_found, eight_of, eight_of_group, none_told, plainly}
-use Rattle.answer_lanes.specs.Points.{answer_at, finding_at, heard_at, mask_if}
+use Rattle.answer_lanes.specs.Blocks.{eight_finding_at, eight_found, eight_of, eight_of_group, none_told}
+use Rattle.answer_lanes.specs.Points.{answer_at, heard_at, mask_if}
 use Rattle.answer_lanes.specs.Runs.{items_of}
 use Rattle.coincidence.specs.declared.decide.Decide.{Decide}
 use Rattle.coincidence.specs.Changes.{FindsNext, PutsFindings, TakesAnswers}
-use Rattle.coincidence.specs.GoingOn.{ConfirmsAgain, telling_of}
 use Rattle.coincidence.specs.Resting.{AreStill, LeavesPoint, TellsChanging, plain_of}
 use Rattle.coincidence.specs.Parts.{is_at_rest}
 use Rattle.coincidence.specs.Places.{TellsEight}
-use Rattle.coincidence.specs.Stands.{CanTake}
-use Rattle.coincidence.specs.Steady.{AreSilentIn, AreSteady, IsPlainBlock, IsPlainEight, IsSteadyBlock, all_of_block, all_of_eight}
+use Rattle.coincidence.specs.Steady.{AreLeftIn, AreSilentIn, AreSteady, IsPlainBlock, IsSteadyBlock, all_of_block, all_of_eight}
 use Rattle.answer_lanes.proofs.Blocks.{finding_of_group}
 use Rattle.answer_lanes.proofs.MaskBits.{lt_is}
 use Rattle.coincidence.proofs.PlaceSets.{ones_have}
 use Rattle.coincidence.proofs.Resting.{finds_at_rest, still_quiet, takes_one_at_rest}
 use Rattle.coincidence.proofs.FindingIs.{same_finding}
-use Rattle.coincidence.proofs.Turned.{can_behind, can_front, put_both, put_none, puts_both, puts_none, puts_one, takes_both, takes_none}
+use Rattle.coincidence.proofs.Turned.{put_both, put_none, puts_both, puts_none, puts_one, takes_both, takes_none}
 use Rattle.site_types.proofs.Masks.{has_bit-zero}
 
 -- the answers of an eight, and its findings
@@ -80,82 +76,30 @@ steady_from decide answers found taken (suc count) each =
     (steady_from decide answers found (taken + 1) count (λ k small. each k (omega (arith, small))))
 
 -- where each answer of an eight leaves all that is kept as it is, the eight does
-steady_each : (decide : Decide) (answers : AnswerGroup) (found : FindingEight)
+pub steady_each : (decide : Decide) (answers : AnswerGroup) (found : FindingEight)
     → ((k : ℕ) → k < 8 → AreSteady decide (answer_at answers k ∷ []) (eight_finding_at found k ∷ []))
     → AreSteady decide (answers_in answers) (found_in found)
 steady_each decide answers found each = steady_from decide answers found 0 8 (λ k small. each k (omega (arith, small)))
 
-steady_one : (decide : Decide) (answer : Answer) (finding : Finding) → TakesAnswers decide (answer ∷ []) decide → FindsNext decide answer finding
+pub steady_one : (decide : Decide) (answer : Answer) (finding : Finding) → TakesAnswers decide (answer ∷ []) decide → FindsNext decide answer finding
     → AreSteady decide (answer ∷ []) (finding ∷ [])
 steady_one decide answer finding takes finds = record {
   taken = takes;
   put = λ lane. puts_one decide answer finding lane (with_put lane (finding ∷ [])) finds refl;
 }
 
--- an eight of which no answer may change what is kept
-pub plain_eight : (decide : Decide) (answers : AnswerGroup) (found : FindingEight) (changing : ℕ) → IsPlainEight answers found
-    → TellsChanging decide (all_of_eight answers) changing → changing ≡ 0 → AreSteady decide (answers_in answers) (found_in found)
-plain_eight decide answers found changing plain tells none =
-    steady_each decide answers found
+-- a block of which all answers leave what is kept of their points as it is
+pub left_block : (decide : Decide) (block : AnswerBlock) (found : FindingBlock) → IsPlainBlock block found → AreLeftIn decide block
+    → IsSteadyBlock decide block found
+left_block decide block found plain left =
+    steady_block decide block found
+    (λ number less.
+    steady_each decide (eight_of block number) (eight_found found number)
     (λ k small.
-    let here : 0 + k ≡ k = omega arith in
-    let clear = ap (λ m. has_bit m k) none ∙ has_bit-zero k in
-    let item = answer_at answers k in
-    let leaves_point = subst (λ n. LeavesPoint decide (answer_at answers n)) here (tells.left k small clear) in
-    steady_one decide item (eight_finding_at found k) (takes_one_at_rest decide item leaves_point)
-    (subst (FindsNext decide item) (sym (plain k)) (finds_at_rest decide item leaves_point)))
-
--- the findings of a group are plain as those of an eight
-pub plain_group_is : (answers : AnswerGroup) (group : FindingGroup) → ((k : ℕ) → finding_at group k ≡ plain_of (answer_at answers k))
-    → IsPlainEight answers (eight_of_group group)
-plain_group_is answers group plain k = finding_of_group (eight_of_group group) k (has_bit-zero k) ∙ plain k
-
--- an eight of which those in front may confirm and release some zones, and the others other ones
-pub split_eight : (decide : Decide) (answers : AnswerGroup) (found : FindingEight) (front zones : ℕ)
-    → ((k : ℕ) → finding_at found.group k ≡ telling_of zones (answer_at answers k))
-    → ((other k : ℕ) → finding_at (plainly other found.group) k ≡ telling_of other (answer_at answers k))
-    → ((k : ℕ) → k < 8 → has_bit found.others k ≡ not (nat_lt k front))
-    → ((k : ℕ) → k < 8 → ConfirmsAgain decide (answer_at answers k) (if nat_lt k front then zones else found.other_zones))
-    → AreSteady decide (answers_in answers) (found_in found)
-split_eight decide answers found front zones own others bits again =
-    steady_each decide answers found
-    (λ k small.
-    let item = answer_at answers k in
-    let one = again k small in
-    let is = ap (λ b. finding_at (if b then plainly found.other_zones found.group else found.group) k) (bits k small) ∙ by k (nat_lt k front) in
-    steady_one decide item (eight_finding_at found k) one.taken (subst (FindsNext decide item) (sym is) one.found))
-  where
-    by : (k : ℕ) (b : Bool) → finding_at (if not b then plainly found.other_zones found.group else found.group) k
-        ≡ telling_of (if b then zones else found.other_zones) (answer_at answers k)
-    by k true = own k
-    by k false = others found.other_zones k
-
--- ---- each of the four eights of a block
-
--- the eights of a block may be taken one behind the other
-module _ (decide : Decide) (block : AnswerBlock) (can : CanTake decide (items_of block_answer_at (all_of_block block))) where
-  abbrev eight : ℕ → List Answer
-  eight number = answers_in (eight_of block number)
-
-  pub can_first : CanTake decide (eight 0)
-  can_first = can_front decide (eight 0) (eight 1 ++ (eight 2 ++ (eight 3 ++ []))) can
-
-  module _ (fs : List Finding) (first : AreSteady decide (eight 0) fs) where
-    behind_first : CanTake decide (eight 1 ++ (eight 2 ++ (eight 3 ++ [])))
-    behind_first = can_behind decide decide (eight 0) (eight 1 ++ (eight 2 ++ (eight 3 ++ []))) first.taken can
-
-    pub can_second : CanTake decide (eight 1)
-    can_second = can_front decide (eight 1) (eight 2 ++ (eight 3 ++ [])) behind_first
-
-    module _ (gs : List Finding) (second : AreSteady decide (eight 1) gs) where
-      behind_second : CanTake decide (eight 2 ++ (eight 3 ++ []))
-      behind_second = can_behind decide decide (eight 1) (eight 2 ++ (eight 3 ++ [])) second.taken behind_first
-
-      pub can_third : CanTake decide (eight 2)
-      can_third = can_front decide (eight 2) (eight 3 ++ []) behind_second
-
-      pub can_fourth : (hs : List Finding) → AreSteady decide (eight 2) hs → CanTake decide (eight 3)
-      can_fourth hs third = can_front decide (eight 3) [] (can_behind decide decide (eight 2) (eight 3 ++ []) third.taken behind_second)
+    let item = answer_at (eight_of block number) k in
+    let leaves_point = left number k less small in
+    steady_one decide item (eight_finding_at (eight_found found number) k) (takes_one_at_rest decide item leaves_point)
+    (subst (FindsNext decide item) (sym (plain number less k small)) (finds_at_rest decide item leaves_point))))
 
 -- what holds of each of the four numbers holds of all
 pub all_four : (P : ℕ → Type 0) → P 0 → P 1 → P 2 → P 3 → (number : ℕ) → number < 4 → P number
@@ -190,11 +134,11 @@ pub plain_found : (answers : AnswerBlock) (missing : List ℕ) → AreSilentIn a
   others = 0 ∷ 0 ∷ 0 ∷ 0 ∷ [];
   other_zones = 0 ∷ 0 ∷ 0 ∷ 0 ∷ [];
 })
-plain_found answers missing silents zero less k = plain_at (eight_of answers 0) (slice_index missing 0) k (silents 0 k less)
-plain_found answers missing silents (suc zero) less k = plain_at (eight_of answers 1) (slice_index missing 1) k (silents 1 k less)
-plain_found answers missing silents (suc (suc zero)) less k = plain_at (eight_of answers 2) (slice_index missing 2) k (silents 2 k less)
-plain_found answers missing silents (suc (suc (suc zero))) less k = plain_at (eight_of answers 3) (slice_index missing 3) k (silents 3 k less)
-plain_found answers missing silents (suc (suc (suc (suc number)))) less k = absurd (omega (arith, less))
+plain_found answers missing silents zero less k small = plain_at (eight_of answers 0) (slice_index missing 0) k (silents 0 k less small)
+plain_found answers missing silents (suc zero) less k small = plain_at (eight_of answers 1) (slice_index missing 1) k (silents 1 k less small)
+plain_found answers missing silents (suc (suc zero)) less k small = plain_at (eight_of answers 2) (slice_index missing 2) k (silents 2 k less small)
+plain_found answers missing silents (suc (suc (suc zero))) less k small = plain_at (eight_of answers 3) (slice_index missing 3) k (silents 3 k less small)
+plain_found answers missing silents (suc (suc (suc (suc number)))) less k small = absurd (omega (arith, less))
 
 -- of a quiet answer nothing is silent
 pub quiet_at : (answers : AnswerGroup) (k : ℕ) → answers.alarms ≡ 0 → answers.silents ≡ 0 → has_bit 0 k ≡ is_silent (answer_at answers k).heard
@@ -222,14 +166,6 @@ none_changing decide answers points no_alarms no_silents rests = record {
         still_quiet decide answers points 255 0 255 rests no_silents
         (λ k small. has_bit-zero k ∙ sym (ap (λ m. has_bit m (0 + k)) no_alarms ∙ has_bit-zero (0 + k)))
         (λ k small. both (has_bit 255 k) ∙ sym (ap (λ b. has_bit 255 k && not b) (has_bit-zero k)))
-
--- eights of one tick
-pub same_stamps : (a b c : FindingEight) (stamp : Tick) → a.group.stamp ≡ stamp → b.group.stamp ≡ stamp → c.group.stamp ≡ stamp → (k : ℕ)
-    (d : FindingEight) → k < 3 → (slice_index_or (a ∷ b ∷ c ∷ []) k d).group.stamp ≡ stamp
-same_stamps a b c stamp p q r zero d less = p
-same_stamps a b c stamp p q r (suc zero) d less = q
-same_stamps a b c stamp p q r (suc (suc zero)) d less = r
-same_stamps a b c stamp p q r (suc (suc (suc k))) d less = absurd (omega (arith, less))
 
 -- a run that holds all of a block
 pub whole_is : (run : Run AnswerBlock) → run.taken ≡ 0 → run.count ≡ 32 → all_of_block run.first ≡ run

@@ -302,6 +302,7 @@ module _ {site : Site} {kept : Retained} {panel : ℕ} {done : List Done} {taken
     going_on = going;
     order = may.order;
     own = own_more;
+    told = stands.told;
   }
 
   -- by what the code's calls say of the new values
@@ -338,6 +339,7 @@ zone_as_before decide points place zone marks items count going noted = record {
   going_on = going;
   order = noted.order;
   own = noted.own;
+  told = noted.told;
 }
 
 -- an answer that is no alarm
@@ -353,6 +355,7 @@ pub quiet_noted : {site : Site} {kept : Retained} {panel : ℕ} {done : List Don
       reset = decide.reset;
       going_on = g;
       since = decide.since;
+      told = decide.told;
     })
 quiet_noted {site} {kept} {panel} {done} {taken} {decide} stands answer may quiet q s eq es g going =
     let own = may.own 0 answer refl in

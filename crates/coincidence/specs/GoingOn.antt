@@ -1,7 +1,6 @@
 -- Alarms that go on in a plain zone: each of them counts, and changes nothing of what is kept of its point.
-use Rattle.std.specs.Prelude.{◌≡◌, [], ◌∷◌, ◌+◌, ◌<◌, ◌≤◌, ℕ, List, Some, false, slice_get}
-use Rattle.std.specs.Prelude.{◌^◌, ◌==◌, if◌then◌else◌, length, slice_index, slice_index_or, true}
-use Rattle.site_types.specs.Changes.{IsNumber}
+use Rattle.std.specs.Prelude.{◌≡◌, [], ◌∷◌, ◌+◌, ◌*◌, ◌<◌, ◌≤◌, ℕ, List, Some, false, slice_get}
+use Rattle.std.specs.Prelude.{slice_index_or, true}
 use Rattle.site_types.specs.declared.heard.Heard.TheVariants.{Alarm}
 use Rattle.site_types.specs.declared.retained.Retained.{Retained}
 use Rattle.site_types.specs.declared.site.Site.{Site}
@@ -12,10 +11,12 @@ use Rattle.site_types.specs.Bits.{has_bit}
 use Rattle.answer_lanes.specs.declared.answer_block.AnswerBlock.{AnswerBlock}
 use Rattle.answer_lanes.specs.declared.answer_group.AnswerGroup.{AnswerGroup}
 use Rattle.answer_lanes.specs.declared.run.Run.{Run}
-use Rattle.answer_lanes.specs.Blocks.{eight_of}
+use Rattle.answer_lanes.specs.declared.finding_block.FindingBlock.{FindingBlock}
+use Rattle.answer_lanes.specs.Blocks.{eight_finding_at, eight_found, eight_of}
 use Rattle.answer_lanes.specs.Points.{answer_at, mask_if}
 use Rattle.coincidence_rules.specs.Counted.{is_alarm, is_silent}
 use Rattle.coincidence_rules.specs.declared.finding.Finding.{Finding}
+use Rattle.coincidence.specs.declared.block_zones.BlockZones.{BlockZones}
 use Rattle.coincidence.specs.declared.decide.Decide.{Decide}
 use Rattle.coincidence.specs.declared.point_watch.PointWatch.{PointWatch}
 use Rattle.coincidence.specs.declared.zone_part.ZonePart.{ZonePart}
@@ -23,7 +24,7 @@ use Rattle.coincidence.specs.declared.zone_watch.ZoneWatch.{ZoneWatch}
 use Rattle.coincidence.specs.Changes.{FindsNext, TakesAnswers}
 use Rattle.coincidence.specs.Places.{GoesOnFrom}
 use Rattle.coincidence.specs.Stands.{DecidesFor}
-use Rattle.coincidence.specs.Steady.{all_of_eight}
+use Rattle.coincidence.specs.ZoneMasks.{mask_in}
 
 -- an answer is an alarm of one of the points whose alarms go on
 pub record IsMarkedAlarm (decide : Decide) (answer : Answer) : Type 0 where
@@ -42,10 +43,12 @@ pub record AreGoingOn (decide : Decide) (run : Run AnswerGroup) (bits : ℕ) : T
   pub marked : AreMarkedAlarms decide run bits
   pub since : decide.since.0 ≤ run.first.stamp.0
 
--- a byte for each eight of a block tells so of its answers
-abbrev pub AreGoingOnIn : Decide → AnswerBlock → List ℕ → Type 0
-AreGoingOnIn decide block bytes =
-    (number : ℕ) → number < 4 → AreGoingOn decide (all_of_eight (eight_of block number)) (slice_index bytes number)
+-- all answers of a block of which the bits of a word tell, eight for each eight, are alarms of points whose alarms go
+-- on, and the tick of the block isn't before the latest one in which a point was marked
+pub record AreGoingOnIn (decide : Decide) (block : AnswerBlock) (word : ℕ) : Type 0 where
+  pub marked : (number k : ℕ) → number < 4 → k < 8 → has_bit word (8 * number + k) ≡ true
+      → IsMarkedAlarm decide (answer_at (eight_of block number) k)
+  pub since : decide.since.0 ≤ block.stamp.0
 
 -- an answer is of a point in a zone
 pub record IsInZone (decide : Decide) (answer : Answer) (zone : ℕ) : Type 0 where
@@ -90,22 +93,17 @@ telling_of zones answer = record {
   missing = is_silent answer.heard;
 }
 
+-- each answer of a block is found to confirm and release the zone of its point where it is an alarm
+abbrev pub TellEach : AnswerBlock → BlockZones → FindingBlock → Type 0
+TellEach answers zones found =
+    (number k : ℕ) → number < 4 → k < 8
+    → eight_finding_at (eight_found found number) k
+    ≡ telling_of (mask_in zones number k) (answer_at (eight_of answers number) k)
+
 -- an alarm leaves all that is kept as it is, and confirms and releases these zones
 pub record ConfirmsAgain (decide : Decide) (answer : Answer) (zones : ℕ) : Type 0 where
   pub taken : TakesAnswers decide (answer ∷ []) decide
   pub found : FindsNext decide answer (telling_of zones answer)
-
--- there is a zone at a place, with the number of one
-pub record HasZoneAt (decide : Decide) (place : ℕ) : Type 0 where
-  pub small : place < length decide.zones.items
-  pub number : (zone : ZoneWatch) → zone ≡ slice_index_or decide.zones.items place zone → IsNumber zone.number
-
--- a mask is that of the zone at a place
-pub record IsMaskOf (decide : Decide) (place mask : ℕ) : Type 0 where
-  pub zone : ZoneWatch
-  pub read : zone ≡ slice_index_or decide.zones.items place zone
-  pub fits : mask < 2 ^ 32
-  pub bits : (k : ℕ) → k < 32 → has_bit mask k ≡ (if (k + 1) == zone.number then true else false)
 
 -- of the answers of a run of which the bits of a byte tell there are some before the last ones; these leave all that is
 -- kept as it is, and where they are alarms confirm and release the zones of a part

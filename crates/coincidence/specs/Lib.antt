@@ -1,4 +1,5 @@
 -- what is kept of points and zones, and how an answer or an operation changes it
+pub mod ZoneMasks
 pub mod Stands
 pub mod Places
 pub mod PlainZones

@@ -1,6 +1,6 @@
--- The points that a set of places has, and the zones of the eight points from a place on.
-use Rattle.std.specs.Prelude.{◌≡◌, ◌+◌, ◌*◌, ◌<◌, ◌≤◌, ◌||◌, ℕ, Bool, List, None, Option, Some, false, length}
-use Rattle.std.specs.Prelude.{if◌then◌else◌, max, nat_lt, slice_get, slice_index, slice_index_or, true}
+-- The points that a set of places has.
+use Rattle.std.specs.Prelude.{◌≡◌, ◌+◌, ◌*◌, ◌<◌, ◌≤◌, ◌||◌, ℕ, Bool, List, None, Some, false, length}
+use Rattle.std.specs.Prelude.{max, slice_get, slice_index, true}
 use Rattle.tick_units.specs.declared.last_done.LastDone.{LastDone}
 use Rattle.tick_units.specs.declared.tick.Tick.{Tick}
 use Rattle.tick_units.specs.LastTicks.{last_at}
@@ -10,7 +10,6 @@ use Rattle.site_types.specs.Bits.{has_bit}
 use Rattle.answer_lanes.specs.Places.{has_place}
 use Rattle.answer_lanes.specs.declared.place_set.PlaceSet.{PlaceSet}
 use Rattle.coincidence.specs.declared.point_watch.PointWatch.{PointWatch}
-use Rattle.coincidence.specs.declared.zone_split.ZoneSplit.{ZoneSplit}
 use Rattle.coincidence.specs.declared.zone_watch.ZoneWatch.{ZoneWatch}
 use Rattle.coincidence.specs.Parts.{StaysNoted, switch_at}
 
@@ -29,40 +28,6 @@ abbrev pub TellsEights : (PointWatch → Bool) → List PointWatch → List ℕ 
 TellsEights test watches firsts word =
     (number k : ℕ) (watch : PointWatch) → number < 4 → k < 8
     → slice_get watches (slice_index firsts number + k) ≡ Some watch → has_bit word (8 * number + k) ≡ test watch
-
--- the point at a place is of a zone
-pub record IsPointInZone (watches : List PointWatch) (zone place : ℕ) : Type 0 where
-  pub watch : PointWatch
-  pub is : slice_get watches place ≡ Some watch
-  pub own : watch.zone ≡ zone
-
--- the place of the zone in which the point so many places behind the first one stands, of eight that are split so
-abbrev pub split_zone : ZoneSplit → ℕ → ℕ
-split_zone split k = if nat_lt k split.front then split.first else split.second
-
--- the eight points from a place on are split so
-pub record AreSplit (watches : List PointWatch) (first : ℕ) (split : ZoneSplit) : Type 0 where
-  pub some : 1 ≤ split.front
-  pub most : split.front ≤ 8
-  pub alone : split.front ≡ 8 → split.second ≡ split.first
-  pub each : (k : ℕ) → k < 8 → IsPointInZone watches (split_zone split k) (first + k)
-
--- of the eight points from a place on it is told how they are split, and nothing where no split fits them
-abbrev pub TellsSplit : List PointWatch → ℕ → Option ZoneSplit → Type 0
-TellsSplit watches first None = (split : ZoneSplit) → AreSplit watches first split → ⊥
-TellsSplit watches first (Some split) = AreSplit watches first split
-
--- what stands at each place of a list is told so of the eight points from that place on
-abbrev pub TellSplits : List PointWatch → List (Option ZoneSplit) → Type 0
-TellSplits watches of_eights = (first : ℕ) → TellsSplit watches first (slice_index_or of_eights first None)
-
--- the points from a place on are of one zone up to an end, which is the first one of another zone, or where they end
-pub record IsZonesEnd (watches : List PointWatch) (from to end : ℕ) : Type 0 where
-  pub some : from < end
-  pub most : end ≤ to
-  pub zone : ℕ
-  pub same : (place : ℕ) → from ≤ place → place < end → IsPointInZone watches zone place
-  pub apart : end < to → IsPointInZone watches zone end → ⊥
 
 -- from a tick on each alarm of a detector in a plain zone counts, and leaves what is kept of the detector as it is
 pub record GoesOnFrom (since : ℕ) (reset : LastDone) (point : PointWatch) (zone : ZoneWatch) : Type 0 where

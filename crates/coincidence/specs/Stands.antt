@@ -27,6 +27,7 @@ use Rattle.coincidence_rules.specs.Kept.{latest_besides, run_of, may_pair}
 use Rattle.coincidence_rules.specs.Wired.{IsWired}
 use Rattle.coincidence.specs.Places.{HasGoingOn}
 use Rattle.coincidence.specs.Premises.{IsOwn, MayTake, MayApply}
+use Rattle.coincidence.specs.ZoneMasks.{TellZonesOf}
 
 -- the operation is a reset
 abbrev pub is_reset : Operation → Bool
@@ -101,6 +102,7 @@ pub record DecidesFor (site : Site) (kept : Retained) (panel : ℕ) (done : List
   pub going_on : HasGoingOn decide.going_on decide.since.0 decide.reset decide.points decide.zones.items
   pub order : AreInOrder taken
   pub own : (k : ℕ) (answer : Answer) → slice_get taken k ≡ Some answer → IsOwn site panel answer.point
+  pub told : TellZonesOf site.points site.zones decide.told.blocks.items
 
 -- an answer of the panel, not earlier than any answer taken nor than the tick of any operation done
 pub record Fits (site : Site) (panel : ℕ) (done : List Done) (taken : List Answer) (answer : Answer) :

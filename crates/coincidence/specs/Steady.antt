@@ -15,7 +15,7 @@ use Rattle.coincidence_rules.specs.Counted.{is_silent}
 use Rattle.coincidence_rules.specs.declared.finding.Finding.{Finding}
 use Rattle.coincidence.specs.declared.decide.Decide.{Decide}
 use Rattle.coincidence.specs.Changes.{PutsFindings, TakesAnswers}
-use Rattle.coincidence.specs.Resting.{LeavesPoint, TellsChanging, plain_of}
+use Rattle.coincidence.specs.Resting.{LeavesPoint, plain_of}
 
 -- all that an eight holds
 abbrev pub all_of_eight : {S : Type 0} → S → Run S
@@ -35,20 +35,19 @@ abbrev pub AreStillIn : Decide → AnswerBlock → ℕ → Type 0
 AreStillIn decide block word = (number k : ℕ) → number < 4 → k < 8 → has_bit word (8 * number + k) ≡ true
     → LeavesPoint decide (answer_at (eight_of block number) k)
 
--- a byte for each eight of a block tells which of its answers may change what is kept of their points
-abbrev pub TellChanging : Decide → AnswerBlock → List ℕ → Type 0
-TellChanging decide block bytes =
-    (number : ℕ) → number < 4 → TellsChanging decide (all_of_eight (eight_of block number)) (slice_index bytes number)
+-- all answers of a block leave what is kept of their points as it is
+abbrev pub AreLeftIn : Decide → AnswerBlock → Type 0
+AreLeftIn decide block = (number k : ℕ) → number < 4 → k < 8 → LeavesPoint decide (answer_at (eight_of block number) k)
 
 -- the bits of a byte for each eight of a block are set of those of its answers that are silent
 abbrev pub AreSilentIn : AnswerBlock → List ℕ → Type 0
 AreSilentIn block bytes =
-    (number k : ℕ) → number < 4
+    (number k : ℕ) → number < 4 → k < 8
     → has_bit (slice_index bytes number) k ≡ is_silent ((answer_at (eight_of block number) k).heard)
 
 -- what is found of all answers of an eight is plain
 abbrev pub IsPlainEight : AnswerGroup → FindingEight → Type 0
-IsPlainEight answers found = (k : ℕ) → eight_finding_at found k ≡ plain_of (answer_at answers k)
+IsPlainEight answers found = (k : ℕ) → k < 8 → eight_finding_at found k ≡ plain_of (answer_at answers k)
 
 -- what is found of all answers of a block is plain
 abbrev pub IsPlainBlock : AnswerBlock → FindingBlock → Type 0
@@ -63,12 +62,6 @@ pub record IsQuietBlock (block : AnswerBlock) : Type 0 where
 pub record AreSteady (decide : Decide) (answers : List Answer) (found : List Finding) : Type 0 where
   pub taken : TakesAnswers decide answers decide
   pub put : (lane : LaneState Finding) → PutsFindings decide answers lane (with_put lane found)
-
--- the answers of an eight are so, and another eight of the tick in which they were asked has their findings
-pub record IsSteadyEight (decide : Decide) (answers : AnswerGroup) (found : FindingEight) : Type 0 where
-  pub stamp : found.group.stamp ≡ answers.stamp
-  pub steady : AreSteady decide (items_of answer_at (all_of_eight answers))
-      (items_of eight_finding_at (all_of_eight found))
 
 -- the answers of a block leave all that is kept as it is, and another block has their findings
 abbrev pub IsSteadyBlock : Decide → AnswerBlock → FindingBlock → Type 0

@@ -1,4 +1,4 @@
-ghost use Rattle.std.specs.Prelude.{◌≡◌, ◌<◌, ◌≤◌, ◌+◌, ◌==◌, ◌&&◌, ℕ, if◌then◌else◌, false, nat_lt, not, true};
+ghost use Rattle.std.specs.Prelude.{◌≡◌, ◌<◌, ◌≤◌, ◌+◌, ◌==◌, ◌&&◌, ℕ, if◌then◌else◌, false, nat_lt, true};
 ghost use Rattle.site_types.specs.Bits.{has_bit};
 ghost use Rattle.site_types.specs.Changes.{IsNumber};
 
@@ -27,14 +27,6 @@ pub fn first_bits(count: u8) -> u8
     ensures { (k : ℕ) → has_bit result k ≡ nat_lt k count }
 {
     ((1u16 << count) - 1) as u8
-}
-
-/// A byte of which all bits are set but so many of the lowest ones.
-pub fn bits_past(count: u8) -> u8
-    requires { count ≤ 8 }
-    ensures { (k : ℕ) → k < 8 → has_bit result k ≡ not (nat_lt k count) }
-{
-    !first_bits(count)
 }
 
 /// The bits of a byte from a place on.

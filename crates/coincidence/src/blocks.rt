@@ -5,20 +5,14 @@ ghost use Rattle.answer_lanes.specs.Blocks.{block_answer_at};
 ghost use Rattle.answer_lanes.specs.Points.{answer_at};
 ghost use Rattle.answer_lanes.specs.Runs.{front_of, items_of};
 
-use crate::bits::{bits_past, one_bit};
 use crate::decide::Decide;
-use crate::rules::{plain_block, plain_group, quiet_block, telling_group};
-use answer_lanes::{
-    AnswerBlock, AnswerGroup, FindingBlock, FindingEight, Lane, Run, joined, parted,
-};
+use crate::rules::{plain_block, quiet_block, telling_block};
+use answer_lanes::{AnswerBlock, AnswerGroup, FindingBlock, Lane, Run, joined};
 
 impl Decide {
     ghost use Rattle.coincidence.specs.Changes.{CanTakeAnswerRun, CanTakeRunOf, TakesAnswerRun, TakesRunOf};
-    ghost use Rattle.coincidence.specs.GoingOn.{AreGoingOn, AreGoingOnIn, HasZoneAt, IsMaskOf};
-    ghost use Rattle.coincidence.specs.Resting.{TellsChanging};
-    ghost use Rattle.coincidence.specs.Stands.{CanTake};
-    ghost use Rattle.coincidence.specs.Steady.{HasNumberedPoints, IsQuietBlock, IsSteadyBlock, IsSteadyEight};
-    ghost use Rattle.coincidence.specs.Steady.{AreStillIn, TellChanging, all_of_block, all_of_eight};
+    ghost use Rattle.coincidence.specs.GoingOn.{AreGoingOnIn};
+    ghost use Rattle.coincidence.specs.Steady.{AreLeftIn, AreStillIn, HasNumberedPoints, IsQuietBlock, all_of_block};
 
     // Puts the findings of a run of a block whose answers change nothing of what is kept. Tells whether it is such a
     // run, and leaves any other one as it is.
@@ -83,7 +77,7 @@ impl Decide {
     fn all_rest(&self, block: &AnswerBlock) -> bool
         requires numbers { HasNumberedPoints block.now }
         requires quiet { IsQuietBlock block.now }
-        ensures { result ≡ true → TellChanging self.now block.now (0 ∷ 0 ∷ 0 ∷ 0 ∷ []) }
+        ensures { result ≡ true → AreLeftIn self.now block.now }
     {
         self.points.resting_in(&block.firsts) == u32::MAX
     }
@@ -100,8 +94,8 @@ impl Decide {
             findings.new }
         ensures other { result ≡ false → findings.new ≡ findings.old }
     {
-        let changing = self.changing_in(block);
-        if changing[0] == 0 && changing[1] == 0 && changing[2] == 0 && changing[3] == 0 {
+        let changing = !self.still_in(block);
+        if changing == 0 {
             findings.put_run(Run {
                 first: plain_block(block),
                 taken: 0,
@@ -109,24 +103,18 @@ impl Decide {
             });
             return true;
         }
-        let Some(found) = self.block_going_on(block, changing) else {
+        if !self.all_go_on_in(block, changing) {
+            return false;
+        }
+        let Some(zones) = self.told.of_firsts(&block.firsts) else {
             return false;
         };
         findings.put_run(Run {
-            first: found,
+            first: telling_block(block, zones),
             taken: 0,
             count: 32,
         });
         true
-    }
-
-    // Which of the answers of each eight of a block may change what is kept of their points, a bit for each.
-    #[inline(always)]
-    fn changing_in(&self, block: &AnswerBlock) -> [u8; 4]
-        requires { HasNumberedPoints block.now }
-        ensures { TellChanging self.now block.now result }
-    {
-        parted(!self.still_in(block))
     }
 
     // Which of the answers of a block leave what is kept of their points as it is, a bit for each. Where none is silent
@@ -146,67 +134,18 @@ impl Decide {
         (resting & !silents | missing & silents) & !alarms
     }
 
-    // The findings of a block where those answers that may change what is kept of their points, by these bits, are all
-    // alarms that go on, and the points of each eight that has one are of one zone or split between two.
+    // Whether those answers of a block of which the bits of a word tell, eight for each eight, are all alarms that go
+    // on.
     #[inline(always)]
-    fn block_going_on(&self, block: &AnswerBlock, changing: [u8; 4]) -> Option<FindingBlock>
-        requires numbers { HasNumberedPoints block.now }
-        requires tells { TellChanging self.now block.now changing }
-        requires can { CanTake self.now (items_of block_answer_at (all_of_block block.now)) }
-        ensures { IfSome result (λ found. IsSteadyBlock self.now block.now found) }
-    {
-        if !self.all_go_on_in(block, changing) {
-            return None;
-        }
-        let first = self.eight_going_on(&block.eight(0), changing[0])?;
-        let second = self.eight_going_on(&block.eight(1), changing[1])?;
-        let third = self.eight_going_on(&block.eight(2), changing[2])?;
-        let fourth = self.eight_going_on(&block.eight(3), changing[3])?;
-        Some(FindingBlock::of(&[first, second, third, fourth]))
-    }
-
-    // Whether those answers of a block of which the bits tell are all alarms that go on.
-    #[inline(always)]
-    fn all_go_on_in(&self, block: &AnswerBlock, changing: [u8; 4]) -> bool
-        requires numbers { HasNumberedPoints block.now }
-        requires tells { TellChanging self.now block.now changing }
-        ensures { result ≡ true → AreGoingOnIn self.now block.now changing }
+    fn all_go_on_in(&self, block: &AnswerBlock, word: u32) -> bool
+        requires { HasNumberedPoints block.now }
+        ensures { result ≡ true → AreGoingOnIn self.now block.now word }
     {
         if block.stamp.0 < self.since.0 {
             return false;
         }
         let marked = self.going_on.eights_from(&block.firsts) & joined(&block.alarms);
-        joined(&changing) & !marked == 0
-    }
-
-    // The findings of an eight where those answers that may change what is kept of their points, by these bits, are all
-    // alarms that go on. Where there is one, all eight points have to be of one zone or split between two.
-    #[inline(always)]
-    fn eight_going_on(&self, answers: &AnswerGroup, changing: u8) -> Option<FindingEight>
-        requires point { answers.now.point ≤ 65527 }
-        requires tells { TellsChanging self.now (all_of_eight answers.now) changing }
-        requires going { AreGoingOn self.now (all_of_eight answers.now) changing }
-        requires can { CanTake self.now (items_of answer_at (all_of_eight answers.now)) }
-        ensures { IfSome result (λ found. IsSteadyEight self.now answers.now found) }
-    {
-        if changing == 0 {
-            return Some(FindingEight::from(plain_group(answers)));
-        }
-        let split = self.points.split_of_eight(answers.point as usize)?;
-        Some(FindingEight {
-            group: telling_group(answers, self.mask_of(split.first)),
-            others: bits_past(split.front),
-            other_zones: self.mask_of(split.second),
-        })
-    }
-
-    // The mask of the zone at a place.
-    #[inline(always)]
-    fn mask_of(&self, place: u16) -> u32
-        requires { HasZoneAt self.now place }
-        ensures { IsMaskOf self.now place result }
-    {
-        one_bit(self.zones[place as usize].number, true)
+        word & !marked == 0
     }
 
     // Takes the answers of a run of a block, one eight behind the other, and puts one finding for each.

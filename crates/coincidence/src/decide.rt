@@ -4,6 +4,7 @@ ghost use Rattle.tick_units.specs.Lane.{HasRoom, after_turn};
 
 use crate::bits::{one_bit, two_bits};
 use crate::judgement::Judgement;
+use crate::known_zones::KnownZones;
 use crate::observation::Observation;
 use crate::point_watch::PointWatch;
 use crate::point_watches::PointWatches;
@@ -36,6 +37,8 @@ pub struct Decide {
     pub(crate) going_on: BlockSet,
     /// The latest tick in which one was marked: nothing is said of alarms of earlier ticks.
     pub(crate) since: Tick,
+    /// What those of whole blocks tell.
+    pub(crate) told: KnownZones,
 }
 
 impl Decide {
@@ -60,6 +63,12 @@ impl Decide {
         let points = PointWatches::new(alloc, site.points.as_slice(), kept, blocks.as_slice())?;
         let zones = watch_zones(alloc, site.zones.as_slice(), kept)?;
         let going_on = BlockSet::first(alloc, site.points.len(), false, blocks.as_slice())?;
+        let told = KnownZones::of_blocks(
+            alloc,
+            site.points.as_slice(),
+            site.zones.as_slice(),
+            blocks.as_slice(),
+        )?;
         Ok(Decide {
             panel,
             points,
@@ -67,6 +76,7 @@ impl Decide {
             reset: LastDone::never(),
             going_on,
             since: Tick(0),
+            told,
         })
     }
 

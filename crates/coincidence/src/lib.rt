@@ -24,21 +24,24 @@
 //! alarm that counts and changes nothing, once all operations on it, its zone and the panel lie before that
 //! alarm's tick; any other answer of it that changes something unmarks it, and an operation unmarks all points.
 //! A whole block of four eights is passed over in one step where all its answers are of the first two kinds, or
-//! where all others are alarms that go on, and the points of each eight that has one are of one zone, or its first
-//! ones of one and the others of another, which is known from the start. Any other block, and what is left of one,
-//! is taken eight by eight. A run within a group of eight is passed over in one step where all its answers are of
-//! the first two kinds, and in one step for each zone where all others are alarms that go on. Of any other run each
-//! answer that is of neither of the first two kinds is taken by itself, which costs the same, whatever the site. A
-//! turn takes no memory; only [`Decide::new`] does.
+//! where all others are alarms that go on, and the points of each eight are of no more than two zones: what such
+//! alarms tell is found at the start, once for each block. Any other block, and what is left of one, is taken eight
+//! by eight. A run within a group of eight is passed over in one step where all its answers are of the first two
+//! kinds, and in one step for each zone where all others are alarms that go on. Of any other run each answer that is
+//! of neither of the first two kinds is taken by itself, which costs the same, whatever the site. A turn takes no
+//! memory; only [`Decide::new`] does.
 #![tactic(auto)]
 
 mod alarms;
 mod bits;
+mod block_zones;
 mod blocks;
 mod decide;
+mod eight_zones;
 mod gathering;
 mod going_on;
 mod judgement;
+mod known_zones;
 mod observation;
 mod partner_finding;
 mod partners;
@@ -50,9 +53,7 @@ mod recent;
 mod rules;
 mod runs;
 mod watches;
-mod zone_eights;
 mod zone_part;
-mod zone_split;
 mod zone_watch;
 
 pub use coincidence_rules::Finding;

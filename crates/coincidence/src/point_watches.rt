@@ -4,8 +4,6 @@ ghost use Rattle.site_types.specs.Changes.{IsPanelNumber};
 
 use crate::point_watch::PointWatch;
 use crate::watches::watch_points;
-use crate::zone_eights::splits_of_eights;
-use crate::zone_split::ZoneSplit;
 use answer_lanes::BlockSet;
 use site_types::{Heard, Point, Retained};
 use std::alloc::Global;
@@ -21,23 +19,20 @@ pub struct PointWatches {
     resting: BlockSet,
     /// Those that a silent answer leaves as they are.
     missing: BlockSet,
-    /// By place, how the eight points from it on stand in zones, if in no more than two that follow one another.
-    of_eights: Vec<Option<ZoneSplit>>,
 }
 
 impl Model for PointWatches {
     ghost use Rattle.std.specs.Prelude.{List};
     ghost use Rattle.coincidence.specs.declared.point_watch.PointWatch.{PointWatch as Watch};
     ghost use Rattle.coincidence.specs.Parts.{is_at_rest, stays_missing};
-    ghost use Rattle.coincidence.specs.Places.{HasPointsWhere, TellSplits};
+    ghost use Rattle.coincidence.specs.Places.{HasPointsWhere};
 
     ghost Value = { List Watch };
 
     ghost view = { λ p. p.watches.items };
 
     ghost invariant = { λ p. HasPointsWhere is_at_rest p.watches.items p.resting
-        × HasPointsWhere stays_missing p.watches.items p.missing
-        × TellSplits p.watches.items p.of_eights.items };
+        × HasPointsWhere stays_missing p.watches.items p.missing };
 }
 
 impl PointWatches {
@@ -45,7 +40,7 @@ impl PointWatches {
     ghost use Rattle.site_types.specs.declared.point.Point.{Point as PointPlan};
     ghost use Rattle.coincidence.specs.Changes.{IsSwitchedBefore, NotesPoint, SwitchesPoint};
     ghost use Rattle.coincidence.specs.Parts.{point_from, is_at_rest, leaves_watch, stays_missing};
-    ghost use Rattle.coincidence.specs.Places.{TellsEight, TellsEights, TellsSplit};
+    ghost use Rattle.coincidence.specs.Places.{TellsEight, TellsEights};
 
     /// What is kept of some points at the start.
     pub fn new(
@@ -61,12 +56,10 @@ impl PointWatches {
         let watches = watch_points(alloc, points, kept)?;
         let resting = BlockSet::first(alloc, watches.len(), true, blocks)?;
         let missing = BlockSet::first(alloc, watches.len(), false, blocks)?;
-        let of_eights = splits_of_eights(alloc, watches.as_slice())?;
         Ok(PointWatches {
             watches,
             resting,
             missing,
-            of_eights,
         })
     }
 
@@ -153,16 +146,6 @@ impl PointWatches {
         ensures { TellsEights stays_missing self.now firsts.now result }
     {
         self.missing.eights_from(firsts)
-    }
-
-    /// How the eight points from a place on stand in zones, if in no more than two that follow one another.
-    pub fn split_of_eight(&self, first: usize) -> Option<ZoneSplit>
-        ensures { TellsSplit self.now first result }
-    {
-        match self.of_eights.get(first) {
-            Some(split) => *split,
-            None => None,
-        }
     }
 }
 

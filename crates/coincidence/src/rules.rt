@@ -3,7 +3,8 @@ ghost use Rattle.coincidence.specs.Parts.{switch_at};
 ghost use Rattle.coincidence_rules.specs.Kept.{after as after_tick, makes_pairs as makes_pairs_in};
 ghost use Rattle.coincidence_rules.specs.Counted.{is_alarm};
 
-use answer_lanes::{AnswerBlock, AnswerGroup, FindingBlock, FindingGroup, Told};
+use crate::block_zones::BlockZones;
+use answer_lanes::{AnswerBlock, AnswerGroup, FindingBlock, FindingGroup, Told, joined, parted};
 use coincidence_rules::Finding;
 use site_types::{Answer, Heard, Rule};
 use tick_units::{Switch, Tick};
@@ -102,16 +103,18 @@ pub fn quiet_block(answers: &AnswerBlock) -> FindingBlock
 pub fn plain_block(answers: &AnswerBlock) -> FindingBlock
     ensures { IsPlainBlock answers.now result }
 {
-    let missing = [
-        answers.eight(0).silent_bits(),
-        answers.eight(1).silent_bits(),
-        answers.eight(2).silent_bits(),
-        answers.eight(3).silent_bits(),
-    ];
-    plain_with(answers, missing)
+    plain_with(answers, silent_in(answers))
 }
 
 ghost use Rattle.coincidence.specs.Steady.{AreSilentIn};
+
+// Which answers of each eight of a block are silent.
+#[inline(always)]
+fn silent_in(answers: &AnswerBlock) -> [u8; 4]
+    ensures { AreSilentIn answers.now result }
+{
+    parted(joined(&answers.silents) & !joined(&answers.alarms))
+}
 
 // What the answers of a block mean that tell of no zone, where these bits of each eight are set of those that are
 // silent.
@@ -136,16 +139,12 @@ fn plain_with(answers: &AnswerBlock, missing: [u8; 4]) -> FindingBlock
     }
 }
 
-ghost use Rattle.answer_lanes.specs.Blocks.{plainly};
 ghost use Rattle.coincidence.specs.GoingOn.{telling_of};
 
 /// What the answers of a group mean where its alarms are those of detectors in zones that each of them confirms and
-/// releases, and the other answers tell of no zone. The same holds of other zones, where the group tells plainly of
-/// those instead.
+/// releases, and the other answers tell of no zone.
 pub fn telling_group(answers: &AnswerGroup, zones: u32) -> FindingGroup
-    ensures own { (k : ℕ) → finding_at result k ≡ telling_of zones (answer_at answers.now k) }
-    ensures others { (other k : ℕ)
-        → finding_at (plainly other result) k ≡ telling_of other (answer_at answers.now k) }
+    ensures { (k : ℕ) → finding_at result k ≡ telling_of zones (answer_at answers.now k) }
 {
     FindingGroup {
         stamp: answers.stamp,
@@ -156,5 +155,26 @@ pub fn telling_group(answers: &AnswerGroup, zones: u32) -> FindingGroup
         confirmed: zones,
         manual: 0,
         released: zones,
+    }
+}
+
+ghost use Rattle.coincidence.specs.GoingOn.{TellEach};
+ghost use Rattle.coincidence.specs.ZoneMasks.{ArePlainlyTold};
+
+/// What the answers of a block mean where each of its alarms confirms and releases the zone of its point, and the other
+/// answers tell of no zone.
+#[inline(always)]
+pub fn telling_block(answers: &AnswerBlock, zones: &BlockZones) -> FindingBlock
+    requires { ArePlainlyTold zones.now }
+    ensures { TellEach answers.now zones.now result }
+{
+    FindingBlock {
+        stamp: answers.stamp,
+        firsts: answers.firsts,
+        missing: silent_in(answers),
+        telling: answers.alarms,
+        told: zones.told,
+        others: zones.others,
+        other_zones: zones.other_zones,
     }
 }

@@ -7,7 +7,7 @@ use Rattle.coincidence.proofs.Steady.{all_four, quiet_at}
 use Rattle.coincidence.proofs.rules.quiet_block.Goals as goal
 
 pub plain_with-requires : goal.plain_with-requires
-plain_with-requires c number k less =
+plain_with-requires c number k less small =
     let block = c.args.answers.now in
     let alarms = c.requires.alarms in
     let silents = c.requires.silents in

@@ -25,7 +25,7 @@ loop-left-preserved c =
     let ends : EndsPart c.args.run.now.count c.part_going_on-part.result.behind c.lowest_bit_or.result =
     record { set = low.set; none = low.none; otherwise = low.otherwise } in
     part_told h c.requires.tells c.part_going_on-part.result c.part_going_on-part.ensures c.lowest_bit_or.result ends c.telling_group.result
-    c.telling_group.ensures.own c.put_eight.new.findings c.put_eight.ensures
+    c.telling_group.ensures c.put_eight.new.findings c.put_eight.ensures
 
 pub returns : goal.returns
 returns c = all_told c.loop-left.invariant c.loop-left-test.false

@@ -1,7 +1,5 @@
-use Rattle.std.proofs.Common.{ap, sym, subst, ◌<◌, length}
+use Rattle.std.proofs.Common.{sym, subst, ◌<◌, length}
 use Rattle.coincidence.proofs.PlaceSets.{set_those, tells_old}
-use Rattle.coincidence.proofs.ZoneEights.{splits_kept}
-use Rattle.coincidence.specs.declared.point_watch.PointWatch.{PointWatch}
 use Rattle.coincidence.specs.Parts.{is_at_rest, stays_missing}
 use Rattle.coincidence.proofs.point_watches.PointWatches.change.Goals as goal
 
@@ -29,6 +27,4 @@ invariant_of-self c =
           c.mark.ensures c.is_at_rest-rests.ensures,
       set_those stays_missing watches c.args.place was is small c.index_mut-watch.ensures.value c.self.inside.missing c.mark-2.new.set _
           c.self.invariant.1 c.mark-2.ensures c.stays_missing-stays.ensures,
-      splits_kept watches c.args.place was is c.index_mut-watch.ensures.value (ap (λ (w : PointWatch). w.zone) c.note.ensures)
-          c.self.inside.of_eights.items c.self.invariant.2,
     )

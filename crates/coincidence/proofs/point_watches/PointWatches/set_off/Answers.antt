@@ -1,7 +1,5 @@
 use Rattle.std.proofs.Common.{◌<◌, length, ap, sym, subst}
 use Rattle.coincidence.proofs.PlaceSets.{keep_those}
-use Rattle.coincidence.proofs.ZoneEights.{splits_kept}
-use Rattle.coincidence.specs.declared.point_watch.PointWatch.{PointWatch}
 use Rattle.coincidence.specs.Parts.{is_at_rest, stays_missing}
 use Rattle.coincidence.proofs.point_watches.PointWatches.set_off.Goals as goal
 
@@ -15,6 +13,4 @@ invariant_of-self c =
           (ap is_at_rest c.set_off.ensures),
       keep_those stays_missing watches c.args.place was is small c.index_mut.ensures.value c.self.inside.missing c.self.invariant.1
           (ap stays_missing c.set_off.ensures),
-      splits_kept watches c.args.place was is c.index_mut.ensures.value (ap (λ (w : PointWatch). w.zone) c.set_off.ensures) c.self.inside.of_eights.items
-          c.self.invariant.2,
     )
