@@ -11,3 +11,4 @@ pub mod SameBits
 pub mod Marks
 pub mod EqualFaces
 pub mod SameFaces
+pub mod PageParts

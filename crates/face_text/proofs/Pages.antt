@@ -9,7 +9,7 @@ pub page_length : length page ≡ 35
 unfolding page
 page_length = refl
 
-one_of : (groups : List Group) (k : ℕ) (d : Group) → AllByRecursion HasPlace groups → k < length groups → HasPlace (get_or groups k d)
+pub one_of : (groups : List Group) (k : ℕ) (d : Group) → AllByRecursion HasPlace groups → k < length groups → HasPlace (get_or groups k d)
 one_of [] k d all within = absurd (omega (arith, within))
 one_of (group ∷ groups) zero d all within = all.0
 one_of (group ∷ groups) (suc k) d all within = one_of groups k d all.1 (omega (arith, within))

@@ -19,10 +19,15 @@ both true true e = (refl, refl)
 both true false e = cc
 both false b e = cc
 
-number : (a b : ℕ) → (a == b) ≡ true → a ≡ b
+-- a truth is not both
+pub no_truth : {A : Type 0} (b : Bool) → b ≡ false → b ≡ true → A
+no_truth true f t = cc
+no_truth false f t = cc
+
+pub number : (a b : ℕ) → (a == b) ≡ true → a ≡ b
 number a b e = (Decides-eqb a b).0 e
 
-numbers : (a b : List ℕ) → pointwise (λ x y. x == y) a b ≡ true → a ≡ b
+pub numbers : (a b : List ℕ) → pointwise (λ x y. x == y) a b ≡ true → a ≡ b
 numbers a b e = (slice_eq-Decides Decides-eqb a b _ refl).0 e
 
 lists : (a b : List (List ℕ)) → pointwise (pointwise (λ x y. x == y)) a b ≡ true → a ≡ b
@@ -62,10 +67,10 @@ sound_is Fault Fire e = cc
 sound_is Fire Off e = cc
 sound_is Fire Fault e = cc
 
-points_is : (a b : PointSet) → pointwise (pointwise (λ x y. x == y)) a.loops b.loops ≡ true → a ≡ b
+pub points_is : (a b : PointSet) → pointwise (pointwise (λ x y. x == y)) a.loops b.loops ≡ true → a ≡ b
 points_is a b e = points_from a b (lists a.loops b.loops e)
 
-faults_is : (a b : FaultSet) → same_faults a b ≡ true → a ≡ b
+pub faults_is : (a b : FaultSet) → same_faults a b ≡ true → a ≡ b
 faults_is a b e =
     let missing = both _ _ e in
     let broken = both _ _ missing.1 in

@@ -1,5 +1,5 @@
 -- The face of a panel that shows nothing, and the conditions that a face tells.
-use Rattle.std.specs.Prelude.{◌-◌, ◌==◌, ◌&&◌, ◌||◌, ℕ, Bool, true, false, not, List, replicate, slice_index}
+use Rattle.std.specs.Prelude.{◌≡◌, ◌-◌, ◌==◌, ◌&&◌, ◌||◌, ℕ, Bool, true, false, not, List, replicate, slice_index}
 use Rattle.std.specs.List.{list_any}
 use Rattle.std.specs.Cmp.Lexicographic.{pointwise}
 use Rattle.std.specs.Str.{bytes_eq}
@@ -105,6 +105,12 @@ same_face one other =
     && ((one.outputs_off == other.outputs_off) && ((one.test == other.test)
     && (same_truth one.delays_off other.delays_off
     && (same_buzzer one.buzzer other.buzzer && (one.counter == other.counter))))))))))))
+
+-- they show the same outputs, disablements of things and zones in test
+abbrev pub ShowSameRest : Face → Face → Type 0
+ShowSameRest one other =
+    (one.outputs ≡ other.outputs) × (one.confirmed ≡ other.confirmed) × (one.points_off ≡ other.points_off)
+    × (one.zones_off ≡ other.zones_off) × (one.outputs_off ≡ other.outputs_off) × (one.test ≡ other.test)
 
 -- the faces of all panels show the same
 abbrev pub same_faces : List Face → List Face → Bool

@@ -3,6 +3,7 @@ pub mod Faces
 pub mod Slots
 pub mod Lists
 pub mod NextNames
+pub mod Starts
 -- the text of a run: lines on changes and answers, the whole timeline, and what is held back
 pub mod Changes
 pub mod Answers

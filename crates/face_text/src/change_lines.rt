@@ -5,6 +5,7 @@ ghost use Rattle.panel_edges.specs.Contents.{Grows, GrowsByFront};
 ghost use Rattle.panel_edges.specs.Faults.{HasCause};
 ghost use Rattle.face_text.specs.Changes.{changes_text};
 ghost use Rattle.face_text.specs.Holding.{Puts};
+ghost use Rattle.face_text.specs.Starts.{ArePassed};
 ghost use Rattle.face_text.specs.Slots.{buzzer_line as line_of_buzzer, counter_line as line_of_counter};
 ghost use Rattle.face_text.specs.Slots.{delays_line as line_of_delays, kind_of, line_of_thing, number_of_buzzer};
 ghost use Rattle.face_text.specs.Slots.{number_of_truth, on_word as word_of_on, word_of};
@@ -13,6 +14,7 @@ use crate::face::Face;
 use crate::face_pair::FacePair;
 use crate::group::Group;
 use crate::held::Held;
+use crate::starts::Starts;
 use crate::words::{buzzer_word, group_word, kind_word, on_word};
 use arrayvec::ArrayString;
 use itoa::Buffer;
@@ -41,7 +43,7 @@ pub fn write_changes<K: Sink>(
     ensures reads { K.read_faults out.new ≡ K.read_faults out.old }
 {
     let mut held = Held::new();
-    push_changes(site, before, after, &mut held, out)?;
+    push_changes(site, &Starts::none(), before, after, &mut held, out)?;
     held.flush(out)
 }
 
@@ -52,11 +54,13 @@ pub fn write_changes<K: Sink>(
 /// At the first write that fails. Some front of what was held and of the text is written then.
 pub fn push_changes<K: Sink>(
     site: &Site,
+    starts: &Starts,
     before: &Face,
     after: &Face,
     held: &mut Held,
     out: &mut K,
 ) -> Result<(), Failed>
+    requires { ArePassed site.now starts.now }
     ensures text { Puts held.old held.new (K.written out.old) (K.written out.new)
         (changes_text site.now before.now after.now) result }
     ensures cause { HasCause (K.write_faults out.old) (K.write_faults out.new) result }
@@ -68,6 +72,7 @@ pub fn push_changes<K: Sink>(
     }
     let pair = FacePair {
         site,
+        starts,
         before,
         after,
     };

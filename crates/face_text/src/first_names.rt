@@ -2,28 +2,11 @@
 
 ghost use Rattle.std.specs.Prelude.{◌≡◌, ◌≤◌, ◌+◌, ◌==◌, ℕ, true, false, drop, length, take};
 ghost use Rattle.std.specs.List.{list_any};
-ghost use Rattle.face_text.specs.NextNames.{AreNamedBehind};
 
-use crate::group::Group;
-use site_types::{Output, Point, Site, Zone};
-
-/// How many things of a group's list, from its beginning, needn't be looked at for the names of a panel's group.
-pub fn first_name(site: &Site, panel: u8, group: Group) -> usize
-    ensures { AreNamedBehind result site.now panel group 1 }
-{
-    match group {
-        Group::Zones(other) | Group::Firsts(other) => others(site.zones.as_slice(), other),
-        Group::Missing(_) | Group::PointsOff(_) => others(site.points.as_slice(), panel),
-        Group::Unconfirmed | Group::Outputs | Group::Confirmed | Group::OutputsOff => {
-            others(site.outputs.as_slice(), panel)
-        }
-        Group::ZonesOff | Group::Tests => others(site.zones.as_slice(), panel),
-        Group::Broken | Group::Shorted | Group::Supplies | Group::Silent | Group::Links => 0,
-    }
-}
+use site_types::{Output, Point, Zone};
 
 // A thing of a panel.
-trait OfPanel {
+pub(crate) trait OfPanel {
     ghost panel_of: { Self → ℕ };
 
     fn panel(&self) -> u8
@@ -54,8 +37,8 @@ impl OfPanel for Output {
     }
 }
 
-// How many things stand before the first eight among which there is one of a panel.
-fn others<T: OfPanel>(things: &[T], panel: u8) -> usize
+/// How many things stand before the first eight among which there is one of a panel.
+pub(crate) fn others<T: OfPanel>(things: &[T], panel: u8) -> usize
     ensures { list_any (λ thing. T.panel_of thing == panel) (take result things.now) ≡ false }
 {
     let mut passed = 0;

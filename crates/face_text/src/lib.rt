@@ -13,12 +13,13 @@
 //! [`push_list`] puts a list of a face in JSON from the same slots.
 //!
 //! No call takes memory. Where two faces are equal, writing their changes compares a fixed number of machine
-//! words and looks at nothing of the site. Else a group of lines is looked at only where its mask differs, in
-//! it at what differs, and what is told of a group is named by one walk over the site's list of such things,
-//! and by a search of it where a panel's don't stand in the order of their numbers. Lines are held back in a
-//! room of 1,024 bytes, so that a text goes out in as few writes as that room allows. Where a tick has more to
-//! tell than one face, [`push_changes`] and [`push_answers`] put it behind what a [`Held`] holds already, and
-//! one [`Held::flush`] writes it.
+//! words and looks at nothing of the site. Else a section of the page (zones, first states, faults, the rest)
+//! is looked at only where it differs, in it a group of lines only where its mask differs, in that at what
+//! differs, and what is told of a group is named by one walk over the site's list of such things, and by a
+//! search of it where a panel's don't stand in the order of their numbers. Lines are held back in a room of
+//! 1,024 bytes, so that a text goes out in as few writes as that room allows. Where a tick has more to tell
+//! than one face, [`push_changes`] and [`push_answers`] put it behind what a [`Held`] holds already, and one
+//! [`Held::flush`] writes it.
 #![tactic(auto)]
 
 mod answer_lines;
@@ -41,6 +42,8 @@ mod op_answer;
 mod op_answers;
 mod page;
 mod reply;
+mod sections;
+mod starts;
 mod step;
 mod timeline;
 mod words;
@@ -61,6 +64,7 @@ pub use naming::{is_panel, name_of};
 pub use op_answer::OpAnswer;
 pub use op_answers::{MOST_ANSWERS, OpAnswers};
 pub use reply::Reply;
+pub use starts::Starts;
 pub use step::Step;
 pub use timeline::Timeline;
 pub use words::kind_word;

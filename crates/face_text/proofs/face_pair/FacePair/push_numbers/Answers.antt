@@ -23,7 +23,7 @@ loop-next-init g c =
           (sym (numbers_begin pair.site.now pair.before.now pair.after.now group next (last_of group) call.within.0
           (λ n low less within. same n low within (call.none n low less)))) (moves_none c.args.held.now _);
       changed = λ high. other next call.within.0 high (call.some (omega (arith, high, last_small group)));
-      passed = λ n low. c.first_name-passed.ensures n (omega (arith, low, call.within.0));
+      passed = λ n low. c.start-passed.ensures pair.site.now c.requires.passed n (omega (arith, low, call.within.0));
       counted = omega arith;
       left = refl;
       reads = refl;

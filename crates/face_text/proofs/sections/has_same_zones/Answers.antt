@@ -1,0 +1,6 @@
+use Rattle.std.proofs.Common.{◌∙◌, sym}
+use Rattle.face_text.proofs.SameFaces.{numbers}
+use Rattle.face_text.proofs.sections.has_same_zones.Goals as goal
+
+pub returns : goal.returns
+returns c same = numbers c.args.before.now.zones c.args.after.now.zones (sym c.eq.ensures ∙ same)
