@@ -116,7 +116,7 @@ fn turn_counted<L: Ledger>(own: &mut Installation, panels: u8, order: &Order, bl
 {
     let mut steps: Steps<L> = Steps::new(blank);
     own.system
-        .turns(order, &mut own.journal, &mut own.disk, &mut steps)
+        .turns(order, false, &mut own.journal, &mut own.disk, &mut steps)
 }
 
 /// All that a panel shows.

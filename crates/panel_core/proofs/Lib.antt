@@ -9,6 +9,7 @@ pub mod KeepTurns
 pub mod Events
 pub mod Orders
 pub mod StepsCounted
+pub mod InLine
 pub mod Fronts
 pub mod AllTurns
 pub mod Begun

@@ -1,10 +1,10 @@
 -- What the system and each of its panels stand for, after some moments.
 use Rattle.std.specs.Prelude.{◌≡◌, ◌<◌, ◌≤◌, ◌+◌, ◌-◌, ◌^◌, ℕ, List, ◌∷◌, [], length, true, false, Some}
-use Rattle.std.specs.Prelude.{◌≢◌, drop, slice_get, Contains}
+use Rattle.std.specs.Prelude.{◌≢◌, drop, map, slice_get, Contains}
 use Rattle.tick_units.specs.declared.seat.Seat.{Seat}
 use Rattle.tick_units.specs.declared.task.Task.{Task}
 use Rattle.tick_units.specs.declared.task.Task.TheVariants.{Keep}
-use Rattle.tick_units.specs.Orders.{IsOrder, canonical_seats}
+use Rattle.tick_units.specs.Orders.{IsOrder, canonical_seats, seat_of}
 use Rattle.tick_units.specs.Ticks.{last_tick}
 use Rattle.site_types.specs.declared.event.Event.{Event}
 use Rattle.site_types.specs.declared.retained.Retained.{Retained}
@@ -138,6 +138,16 @@ pub record MayTurnSeat (seat : Seat) (system : System) : Type 0 where
   pub known : Contains (canonical_seats site.panels) seat
   pub panels : seat.task ≢ Keep
   pub run : IsRun site.panels (and_turns false (seat ∷ []) before)
+  pub few : tick_of before ≤ last_tick
+
+-- these tasks of a panel may have their turns, in this order
+pub record MayTurnTasks (panel : ℕ) (tasks : List Task) (system : System) : Type 0 where
+  pub site : Site
+  pub kept : Retained
+  pub before : List Moment
+  pub stands : StandsFor site kept before system
+  pub member : IsPanel site.panels panel
+  pub run : IsRun site.panels (and_turns false (map (seat_of panel) tasks) before)
   pub few : tick_of before ≤ last_tick
 
 -- the system stands for some history of a site that has what an event names; over a run fewer than 2 ^ 64

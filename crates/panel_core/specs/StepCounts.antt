@@ -43,12 +43,16 @@ CountsTurn old panel task earlier later =
     (site : Site) (kept : Retained) (before : List Moment)
     → StandsFor site kept before old → RisesAt site (facts_in_force site kept before) panel task before earlier later
 
--- at the turns of the seats from one place up to another
-abbrev pub CountsTurnsFrom : System → List Seat → ℕ → ℕ → ℕ → ℕ → Type 0
-CountsTurnsFrom old order from to earlier later =
+-- at the turns of these seats of panels, in this order
+abbrev pub CountsTurns : System → List Seat → ℕ → ℕ → Type 0
+CountsTurns old seats earlier later =
     (site : Site) (kept : Retained) (before : List Moment)
-    → StandsFor site kept before old → IsRun site.panels (and_turns false (seats_between from to order) before)
-    → RisesOver site (facts_in_force site kept before) false (seats_between from to order) before earlier later
+    → StandsFor site kept before old → IsRun site.panels (and_turns false seats before)
+    → RisesOver site (facts_in_force site kept before) false seats before earlier later
+
+-- at the turns of the seats of an order from one place up to another
+abbrev pub CountsTurnsFrom : System → List Seat → ℕ → ℕ → ℕ → ℕ → Type 0
+CountsTurnsFrom old order from to earlier later = CountsTurns old (seats_between from to order) earlier later
 
 -- at the turns of a whole order, in which Keep answered so
 abbrev pub CountsAllTurns : System → List Seat → Journal → Store → ℕ → ℕ → Type 0

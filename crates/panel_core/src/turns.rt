@@ -1,4 +1,5 @@
-ghost use Rattle.std.specs.Prelude.{◌≡◌, ◌≢◌, ◌≤◌, ◌↔◌, [], ◌∷◌};
+ghost use Rattle.std.specs.Prelude.{◌≡◌, ◌≢◌, ◌≤◌, ◌↔◌, [], ◌∷◌, true};
+ghost use Rattle.tick_units.specs.Orders.{canonical_seats, panel_seats, panel_tasks, seat_of};
 ghost use Rattle.retained_journal.specs.Images.{HasRoom, IsEarly, Stands};
 ghost use Rattle.retained_journal.specs.Outcomes.{EachOpens};
 ghost use Rattle.keep_turn.specs.Turns.{FailsByItsDisk, TriesAtMostOnce};
@@ -15,19 +16,23 @@ impl System {
     ghost use Rattle.panel_core.specs.Changes.{MakesTurns, MakesTurnsFrom};
     ghost use Rattle.panel_core.specs.Keeping.{LeavesAfterTurns, LeavesInTurns, MakesAllTurns, MayTurnAll};
     ghost use Rattle.panel_core.specs.Marks.{MarksAllTurns, MarksTurns, MarksTurnsFrom};
-    ghost use Rattle.panel_core.specs.Stands.{MayTurnFrom, MayTurnSeat};
-    ghost use Rattle.panel_core.specs.StepCounts.{CountsAllTurns, CountsTurn, CountsTurnsFrom};
+    ghost use Rattle.panel_core.specs.Stands.{MayTurnFrom, MayTurnSeat, MayTurnTasks};
+    ghost use Rattle.panel_core.specs.StepCounts.{CountsAllTurns, CountsTurn, CountsTurns, CountsTurnsFrom};
 
     /// Each seat has its turn, in this order, with the journal that keeps what the run keeps. The answer is that of
-    /// Keep's turn: after any but a failure each file that a power cut may leave opens to what is kept.
+    /// Keep's turn: after any but a failure each file that a power cut may leave opens to what is kept. `is_canonical`
+    /// tells that the order is the canonical one, whose turns are made without a look at each seat.
     pub fn turns<L: Ledger, D: Disk>(
         &mut self,
         order: &Order,
+        is_canonical: bool,
         journal: &mut Journal,
         disk: &mut D,
         steps: &mut Steps<L>,
     ) -> Store
         requires may { MayTurnAll order.now journal.old self.old }
+        requires canonical { is_canonical ≡ true
+            → order.now ≡ canonical_seats self.old.site.panels }
         requires stands { Stands D.honest D.images disk.old journal.old }
         ensures turns { MakesAllTurns self.old order.now journal.old result journal.new self.new }
         // The steps are the markers that depend on what changed since each panel's turn of Effect before.
@@ -47,10 +52,68 @@ impl System {
         ensures honest { D.honest disk.new ↔ D.honest disk.old }
         ensures cause { FailsByItsDisk (D.faults disk.old) (D.faults disk.new) result }
     {
-        let place = self.turns_from(order, 0, steps);
+        let place = self.first_turns(order, is_canonical, steps);
         let store = self.keep(journal, disk);
         self.turns_from(order, place + 1, steps);
         store
+    }
+
+    // The seats before Keep's have their turns. Tells the place of Keep.
+    fn first_turns<L: Ledger>(
+        &mut self,
+        order: &Order,
+        is_canonical: bool,
+        steps: &mut Steps<L>,
+    ) -> usize
+        requires may { MayTurnFrom order.now 0 self.old }
+        requires canonical { is_canonical ≡ true
+            → order.now ≡ canonical_seats self.old.site.panels }
+        ensures turns { MakesTurnsFrom self.old order.now 0 result self.new }
+        ensures steps { CountsTurnsFrom self.old order.now 0 result steps.old steps.new }
+        ensures marks { MarksTurnsFrom self.old order.now 0 result self.new.changed }
+        ensures few { result ≤ 65 }
+    {
+        if is_canonical {
+            self.canonical_turns(steps)
+        } else {
+            self.turns_from(order, 0, steps)
+        }
+    }
+
+    // Those of the canonical order, panel by panel. Tells the place of Keep, which is its last.
+    fn canonical_turns<L: Ledger>(&mut self, steps: &mut Steps<L>) -> usize
+        requires { MayTurnFrom (canonical_seats self.old.site.panels) 0 self.old }
+        ensures turns { let order = canonical_seats self.old.site.panels in
+            MakesTurnsFrom self.old order 0 result self.new }
+        ensures steps { let order = canonical_seats self.old.site.panels in
+            CountsTurnsFrom self.old order 0 result steps.old steps.new }
+        ensures marks { let order = canonical_seats self.old.site.panels in
+            MarksTurnsFrom self.old order 0 result self.new.changed }
+        ensures few { result ≤ 65 }
+    {
+        let panels = self.site.panels;
+        for before in 0..panels {
+            self.turn_panel(before + 1, steps);
+        }
+        8 * panels as usize
+    }
+
+    // The tasks of a panel have their turns one after another. Each call names its task, so the match on it is gone
+    // from what is compiled.
+    fn turn_panel<L: Ledger>(&mut self, panel: u8, steps: &mut Steps<L>)
+        requires { MayTurnTasks panel panel_tasks self.old }
+        ensures turns { MakesTurns self.old (panel_seats panel) self.new }
+        ensures steps { CountsTurns self.old (panel_seats panel) steps.old steps.new }
+        ensures marks { MarksTurns self.old (panel_seats panel) self.new.changed }
+    {
+        self.turn_task(panel, Task::Poll, steps);
+        self.turn_task(panel, Task::Decide, steps);
+        self.turn_task(panel, Task::Supply, steps);
+        self.turn_task(panel, Task::Desk, steps);
+        self.turn_task(panel, Task::Hold, steps);
+        self.turn_task(panel, Task::Link, steps);
+        self.turn_task(panel, Task::Effect, steps);
+        self.turn_task(panel, Task::Drive, steps);
     }
 
     // The seats from a place on have their turns, up to that of Keep. Tells the place of Keep, or the end.
@@ -71,7 +134,19 @@ impl System {
         order.len()
     }
 
+    // One task of a panel has its turn.
+    #[inline(always)]
+    fn turn_task<L: Ledger>(&mut self, panel: u8, task: Task, steps: &mut Steps<L>)
+        requires { MayTurnSeat (seat_of panel task) self.old }
+        ensures turns { MakesTurns self.old (seat_of panel task ∷ []) self.new }
+        ensures steps { CountsTurn self.old panel task steps.old steps.new }
+        ensures marks { MarksTurns self.old (seat_of panel task ∷ []) self.new.changed }
+    {
+        self.turn_of(Seat { panel, task }, steps);
+    }
+
     // One seat of a panel has its turn.
+    #[inline(always)]
     fn turn_of<L: Ledger>(&mut self, seat: Seat, steps: &mut Steps<L>)
         requires { MayTurnSeat seat self.old }
         ensures turns { MakesTurns self.old (seat ∷ []) self.new }

@@ -92,6 +92,7 @@ pub record MayRunTurns (reversed : Bool) (own : Running) : Type 0 where
   pub disk : IsOnDisk own.disk own.journal
   pub ordered : IsOrder site.panels (order_in reversed own)
   pub run : IsRun site.panels (and_turns false (order_in reversed own) before)
+  pub canonical : own.canonical ≡ canonical_seats own.system.site.panels
   pub few : tick_of before ≤ last_tick
   pub tried : own.journal.tried ≤ last_tick
 

@@ -85,6 +85,7 @@ impl Running {
         if reversed {
             self.system.turns(
                 &self.reversed,
+                false,
                 &mut self.journal,
                 &mut self.disk,
                 &mut steps,
@@ -92,6 +93,7 @@ impl Running {
         } else {
             self.system.turns(
                 &self.canonical,
+                true,
                 &mut self.journal,
                 &mut self.disk,
                 &mut steps,

@@ -1,4 +1,4 @@
-use Rattle.std.proofs.Common.{◌≡◌, ◌<◌, ◌-◌, ℕ, zero, suc, true, false, [], ◌∷◌, List, Bool, length, refl, arith}
+use Rattle.std.proofs.Common.{◌≡◌, ◌<◌, ◌-◌, ℕ, zero, suc, true, false, [], ◌∷◌, length, refl, arith}
 use Rattle.std.proofs.lemmas.List.{get_or_past}
 use Rattle.panel_core.specs.Marks.{is_marked}
 use Rattle.panel_core.proofs.system.System.mark_all.Goals as goal
