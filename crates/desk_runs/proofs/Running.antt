@@ -61,7 +61,7 @@ module _ (site : Site) (kept : Retained) (ticks : List TickBlock) (tick : ℕ) (
   may_tell_begun old begun may opens rest is =
       record { site = site; kept = kept; ticks = ticks; with = begun_with old begun may opens rest is }
 
-  module _ (disks : Disks) (changed : Bool) (old told run : Run) (may : MayRunWith site kept ticks tick block old) (rest : List ℕ) (is :
+  module _ (disks : Disks) (old told run : Run) (may : MayRunWith site kept ticks tick block old) (rest : List ℕ) (is :
       rest ≡ behind_line block) (lines : ToldLines site kept ticks rest told) where
     abbrev block_told : Block
     block_told = block_of site (lines_behind site rest)
@@ -72,9 +72,9 @@ module _ (site : Site) (kept : Retained) (ticks : List TickBlock) (tick : ℕ) (
 
     pub ran_block : told.journal ≡ old.journal
         → (Stands site kept (record { run = ticks; block = Some block_told }) told → AreFew (moments (closed false (record { run = ticks; block = Some block_told })))
-        → MakesTick disks site kept (record { run = ticks; block = Some block_told }) told run) → (changed ≡ false → run.next.items ≡ run.shown.items)
-        → RanBlock site kept ticks block disks changed old run
-    ran_block same makes unchanged =
+        → MakesTick disks site kept (record { run = ticks; block = Some block_told }) told run)
+        → RanBlock site kept ticks block disks old run
+    ran_block same makes =
         let room = may.room in
         let few = few_moments false in
         let made = makes lines.stands (omega (arith, room, few)) in
@@ -84,7 +84,6 @@ module _ (site : Site) (kept : Retained) (ticks : List TickBlock) (tick : ℕ) (
           failed = failed;
           stands = subst (λ xs. Stands site kept (at_rest (ticked failed (block_of site (lines_behind site xs)) ∷ ticks)) run) is made.stands;
           shown = made.before ∙ lines.stands.shown;
-          same = unchanged;
           stores =
               subst
               (λ xs. Stores site kept (stored_old disks old) (stored_new disks run) ticks (ticked failed (block_of site (lines_behind site xs)) ∷ ticks)) is

@@ -79,16 +79,15 @@ pub record MayRunBlock (tick : ℕ) (block : List ℕ) (run : Run) : Type 0 wher
 
 -- the block of the next tick was run, and what was shown before that tick is at hand
 pub record RanBlock (site : Site) (kept : Retained) (ticks : List TickBlock) (block : List ℕ) (disks : Disks)
-    (changed : Bool) (old run : Run) : Type 0 where
+    (old run : Run) : Type 0 where
   pub failed : Bool
   pub stands : Stands site kept (at_rest (tick_told site failed block ∷ ticks)) run
   pub shown : run.next.items ≡ faces_of site kept (moments ticks)
-  pub same : changed ≡ false → run.next.items ≡ run.shown.items
   pub stores :
       Stores site kept (stored_old disks old) (stored_new disks run) ticks (tick_told site failed block ∷ ticks)
   pub few : length (moments (tick_told site failed block ∷ ticks)) ≤ length (moments ticks) + 2 ^ 17
 
-abbrev pub RunsBlock : ℕ → List ℕ → Disks → Bool → Run → Run → Type 0
-RunsBlock tick block disks changed old run =
+abbrev pub RunsBlock : ℕ → List ℕ → Disks → Run → Run → Type 0
+RunsBlock tick block disks old run =
     (site : Site) (kept : Retained) (ticks : List TickBlock) → MayRunWith site kept ticks tick block old
-    → RanBlock site kept ticks block disks changed old run
+    → RanBlock site kept ticks block disks old run

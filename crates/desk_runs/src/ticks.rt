@@ -27,18 +27,18 @@ pub fn expected(ticks: u64) -> u64
     if ticks < LAST_TICK { ticks + 1 } else { 0 }
 }
 
-/// Runs the next tick, whose block is accepted, and writes nothing. Tells whether something else may be shown.
-pub fn run_block<D: Disk>(tick: u64, block: &[u8], run: &mut Run, disk: &mut D) -> bool
+/// Runs the next tick, whose block is accepted, and writes nothing.
+pub fn run_block<D: Disk>(tick: u64, block: &[u8], run: &mut Run, disk: &mut D)
     requires may { MayRunBlock tick block.now run.old }
     requires stands { StandsOn D.honest D.images disk.old run.old.journal }
     ensures runs { RunsBlock tick block.now
         (disks_of D.honest D.images D.moment D.left_since disk.old disk.new)
-        result run.old run.new }
+        run.old run.new }
     ensures disk { KeepsOn D.honest D.images D.faults disk.old disk.new run.old run.new }
 {
     run.begin(Tick(tick));
     tell_lines(behind_first_line(block), run);
-    run.make_turns(disk)
+    run.make_turns(disk);
 }
 
 // Tells the lines behind the first to the tick that has begun.

@@ -26,6 +26,7 @@ use Rattle.panel_node.specs.Stands.{MayBegin, NodeStandsFor}
 use Rattle.panel_node.specs.declared.node.Node.{Node}
 use Rattle.node_desk.specs.Lines.{MayTellWith, ToldLines}
 use Rattle.node_desk.specs.Running.{HasBegun, MadeTick, MayRunWith, RanBlock, node_stored_new, node_stored_old, own_tick}
+use Rattle.face_text.specs.Starts.{ArePassed}
 use Rattle.node_desk.specs.Runs.{RunsFor}
 use Rattle.node_desk.specs.declared.node_run.NodeRun.{NodeRun}
 use Rattle.node_desk.proofs.Befalling.{and_befell}
@@ -68,8 +69,8 @@ module _ (site : Site) (panel : ℕ) (kept : Retained) (history : List NodeMomen
 
         -- its turns may be made
         pub has_begun : (run : NodeRun) → run.node ≡ told → run.panel ≡ old.panel → run.journal ≡ old.journal → run.shown ≡ old.shown
-            → run.store_failures ≡ old.store_failures → HasBegun site panel kept history ticks block_told.events run
-        has_begun run node own journal shown failures =
+            → run.store_failures ≡ old.store_failures → run.starts ≡ old.starts → HasBegun site panel kept history ticks block_told.events run
+        has_begun run node own journal shown failures starts =
             let h = may.runs in
             let before = (may_begin tick (length ticks) may.next).0 in
             record {
@@ -84,6 +85,7 @@ module _ (site : Site) (panel : ℕ) (kept : Retained) (history : List NodeMomen
               shown = shown ∙ h.shown;
               failed = failures ∙ h.failed;
               few = before;
+              starts = subst (ArePassed site) (sym starts) h.starts;
             }
 
         -- the tick that was made is the one that the block tells

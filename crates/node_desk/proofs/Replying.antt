@@ -21,6 +21,7 @@ use Rattle.node_answers.specs.Lines.{other_tick_line}
 use Rattle.panel_node.specs.Changes.{TakesFrame}
 use Rattle.node_desk.specs.Replies.{HasReplied, IsAtHand, reply_bytes}
 use Rattle.node_desk.specs.Running.{RanBlock, node_stored_new, node_stored_old}
+use Rattle.face_text.specs.Starts.{ArePassed}
 use Rattle.node_desk.specs.Runs.{RunsFor}
 use Rattle.node_desk.specs.declared.node_run.NodeRun.{NodeRun}
 use Rattle.node_desk.specs.declared.reply.Reply.{Reply}
@@ -52,9 +53,9 @@ module _ (site : Site) (panel : ℕ) (kept : Retained) (digest : List ℕ) (hist
 
   -- a frame came
   pub replied_frame : (frame : Frame) (run : NodeRun) → disks.new ≡ disks.old → TakesFrame old.node frame run.node → run.panel ≡ old.panel
-      → run.journal ≡ old.journal → run.shown ≡ old.shown → run.store_failures ≡ old.store_failures
+      → run.journal ≡ old.journal → run.shown ≡ old.shown → run.store_failures ≡ old.store_failures → run.starts ≡ old.starts
       → HasReplied site panel kept digest history ticks bytes (Framed frame) disks old reply.Frame run
-  replied_frame frame run same takes own journal shown failures = record {
+  replied_frame frame run same takes own journal shown failures starts = record {
     failed = false;
     after = FrameCame frame ∷ history;
     next = ticks;
@@ -70,6 +71,7 @@ module _ (site : Site) (panel : ℕ) (kept : Retained) (digest : List ℕ) (hist
       shown = shown ∙ h.shown;
       failed = failures ∙ h.failed;
       few = h.few;
+      starts = subst (ArePassed site) (sym starts) h.starts;
     };
     at_hand = tt;
     told = refl;

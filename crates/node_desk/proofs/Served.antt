@@ -37,6 +37,7 @@ module _ (site : Site) (panel : ℕ) (kept : Retained) where
     shown = h.shown;
     failed = h.failed;
     few = h.few;
+    starts = h.starts;
   }
 
   module _ (digest : List ℕ) (history after : List NodeMoment) (given back : ToldConn) (bytes : List ℕ) (failed : Bool) (read :

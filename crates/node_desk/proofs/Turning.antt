@@ -36,6 +36,7 @@ use Rattle.panel_node.specs.Shown.{ShowsFace}
 use Rattle.panel_node.specs.Stands.{NodeStandsFor, StandsForHistory}
 use Rattle.panel_node.specs.declared.node.Node.{Node}
 use Rattle.node_desk.specs.Running.{HasBegun, MadeTick, MayMakeTurns, node_stored_new, node_stored_old, own_tick}
+use Rattle.face_text.specs.Starts.{ArePassed}
 use Rattle.node_desk.specs.Runs.{RunsFor}
 use Rattle.node_desk.specs.declared.node_run.NodeRun.{NodeRun}
 use Rattle.node_desk.proofs.Befalling.{and_befell, befallen_events, befallen_tick, ends_tick, seats_befell}
@@ -176,10 +177,10 @@ module _ (site : Site) (panel : ℕ) (kept : Retained) (history : List NodeMomen
           ∙ ap (λ hs. node_face site panel hs kept) (sym (ends_tick tick history))
 
       pub made_tick : (run : NodeRun) → run.node ≡ node → run.journal ≡ journal → run.panel ≡ old.panel → run.shown ≡ face → run.before ≡ old.shown
-          → run.store_failures ≡ failures_with (has_failed store) old.store_failures
+          → run.starts ≡ old.starts → run.store_failures ≡ failures_with (has_failed store) old.store_failures
           → Stores site kept {kind = disks.kind} (record { disk = disks.old; journal = old.journal }) (record { disk = disks.new; journal = journal }) ticks (tick ∷ ticks)
           → MadeTick site panel kept history ticks events disks old run
-      made_tick run node_is journal_is panel_is shown_is before_is failed_is stores =
+      made_tick run node_is journal_is panel_is shown_is before_is starts_is failed_is stores =
           let few = h.few in
           let tried = h.tried in
           let one = tries.tried in
@@ -199,6 +200,7 @@ module _ (site : Site) (panel : ℕ) (kept : Retained) (history : List NodeMomen
               shown = shown_is ∙ face_is;
               failed = failed_is ∙ ap (failures_with (has_failed store)) h.failed;
               few = omega (arith, few);
+              starts = subst (ArePassed site) (sym starts_is) h.starts;
             };
             before = before_is;
             stores =

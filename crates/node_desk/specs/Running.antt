@@ -19,6 +19,7 @@ use Rattle.node_rules.specs.Histories.{NodeMoment, Befell, befallen}
 use Rattle.node_rules.specs.Nodes.{node_face}
 use Rattle.node_answers.specs.Exchanges.{and_tick, at_tick_end}
 use Rattle.panel_node.specs.Stands.{NodeStandsFor}
+use Rattle.face_text.specs.Starts.{ArePassed}
 use Rattle.node_desk.specs.Runs.{RunsFor}
 use Rattle.node_desk.specs.declared.node_run.NodeRun.{NodeRun}
 
@@ -58,6 +59,7 @@ pub record HasBegun (site : Site) (panel : ℕ) (kept : Retained) (history : Lis
   pub shown : run.shown ≡ node_face site panel (at_tick_end history) kept
   pub failed : run.store_failures ≡ failures ticks
   pub few : length ticks < last_tick
+  pub starts : ArePassed site run.starts
 
 pub record MayMakeTurns (run : NodeRun) : Type 0 where
   pub site : Site

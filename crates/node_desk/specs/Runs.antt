@@ -11,6 +11,7 @@ use Rattle.node_rules.specs.Histories.{NodeMoment, befallen}
 use Rattle.node_rules.specs.Nodes.{node_face}
 use Rattle.node_answers.specs.Exchanges.{at_tick_end}
 use Rattle.panel_node.specs.Stands.{NodeStandsFor}
+use Rattle.face_text.specs.Starts.{ArePassed}
 use Rattle.node_desk.specs.declared.node_run.NodeRun.{NodeRun}
 
 -- a panel at work by itself ran these ticks, and what befell in them is what befell in this history
@@ -26,6 +27,16 @@ pub record RunsFor (site : Site) (panel : ℕ) (kept : Retained) (history : List
   pub shown : run.shown ≡ node_face site panel (at_tick_end history) kept
   pub failed : run.store_failures ≡ failures ticks
   pub few : length ticks ≤ last_tick
+  pub starts : ArePassed site run.starts
+
+-- it ran some ticks
+pub record RunsSome (run : NodeRun) : Type 0 where
+  pub site : Site
+  pub panel : ℕ
+  pub kept : Retained
+  pub history : List NodeMoment
+  pub ticks : List TickBlock
+  pub runs : RunsFor site panel kept history ticks run
 
 -- a panel at work by itself ran so many ticks, whatever it stands for
 abbrev pub HasTicks : NodeRun → ℕ → Type 0

@@ -1,4 +1,4 @@
-use face_text::Face;
+use face_text::{Face, Starts};
 use panel_edges::SoundMemorySink;
 use panel_node::Node;
 use retained_journal::Journal;
@@ -15,6 +15,8 @@ pub struct NodeRun {
     pub(crate) before: Face,
     /// In how many ticks Keep's turn failed.
     pub(crate) store_failures: u64,
+    /// Where the things of each panel begin in the site's lists.
+    pub(crate) starts: Starts,
     /// Where the text of a tick is put together before it is written.
     pub(crate) page: SoundMemorySink,
 }

@@ -9,6 +9,7 @@ ghost use Rattle.site_types.specs.Valid.{IsValid};
 
 use crate::node_run::NodeRun;
 use cause_effect::Plan;
+use face_text::Starts;
 use panel_edges::{NoMemory, SoundMemorySink};
 use panel_node::Node;
 use retained_journal::Journal;
@@ -36,6 +37,7 @@ impl NodeRun {
         ensures same { IfOk result (λ run. run.journal ≡ journal) }
     {
         note_sized(journal.kept());
+        let starts = Starts::of(&site);
         let Ok(node) = Node::open(alloc, site, plan, digest, panel, journal.kept()) else {
             return Err(NoMemory);
         };
@@ -48,6 +50,7 @@ impl NodeRun {
             shown,
             before: shown,
             store_failures: 0,
+            starts,
             page,
         })
     }

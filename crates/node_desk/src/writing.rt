@@ -1,6 +1,7 @@
 //! Writing what is replied.
 
 ghost use Rattle.std.specs.Prelude.{◌≡◌, OnErr, OnOk};
+ghost use Rattle.node_desk.specs.Runs.{RunsSome};
 ghost use Rattle.node_desk.specs.Serving.{BlamesWriting, SendsReply, TellsFrame, TellsReply, TellsTick};
 ghost use Rattle.panel_edges.specs.Contents.{Grows, GrowsByFront};
 ghost use Rattle.panel_edges.specs.Faults.{HasCause};
@@ -13,12 +14,13 @@ use node_answers::{
 };
 use panel_edges::{Failed, Sink, write_all};
 use panel_frames::print_frame;
-use site_run::TickPage;
+use site_run::{TickFaces, TickPage};
 use std::slice;
 
 impl NodeRun {
     // Writes a reply, and tells what came of the connection.
     pub(crate) fn send<K: Sink>(&mut self, reply: Reply, out: &mut K) -> Exchanged
+        requires { RunsSome self.old }
         ensures sends { SendsReply reply (K.written out.old) (K.written out.new) self.old result }
         ensures rest { self.new ≡ record self.old { page = self.new.page } }
         ensures faults { BlamesWriting (K.write_faults out.old) (K.write_faults out.new) result }
@@ -32,6 +34,7 @@ impl NodeRun {
     }
 
     fn write_reply<K: Sink>(&mut self, reply: Reply, out: &mut K) -> Result<(), Failed>
+        requires { RunsSome self.old }
         ensures ok { OnOk result
             (TellsReply (Grows (K.written out.old) (K.written out.new)) reply self.old) }
         ensures err { OnErr result
@@ -74,6 +77,7 @@ impl NodeRun {
 
     // Writes the part in the text of the tick that was run last; where there is nothing to tell nothing is written.
     fn write_tick<K: Sink>(&mut self, out: &mut K) -> Result<(), Failed>
+        requires { RunsSome self.old }
         ensures ok { OnOk result
             (TellsTick (Grows (K.written out.old) (K.written out.new)) self.old) }
         ensures err { OnErr result
@@ -84,11 +88,14 @@ impl NodeRun {
         ensures reads { K.read_faults out.new ≡ K.read_faults out.old }
     {
         let page = TickPage {
-            site: self.node.site(),
             tick: self.node.now().0,
-            changed: true,
-            before: slice::from_ref(&self.before),
-            after: slice::from_ref(&self.shown),
+            faces: TickFaces {
+                site: self.node.site(),
+                starts: &self.starts,
+                alike: &[false; 8],
+                before: slice::from_ref(&self.before),
+                after: slice::from_ref(&self.shown),
+            },
             answers: self.node.answers(),
         };
         page.write(&mut self.page, out)

@@ -83,20 +83,20 @@ module _ (site : Site) (kept : Retained) (ticks : List TickBlock) (body : List �
       record { stands = stands; room = room; accepted = verdict; short = short; next = ap (is_next found) (sym stands.count) ∙ next }
 
   -- and it was run
-  pub block_run : (old run : Run) (found : ℕ) (changed : Bool) → verdict_of site body ≡ Ok found → is_next found (length ticks) ≡ true
-      → RanBlock site kept ticks body disks changed old run → HasReplied (AnswersIt (Tick changed)) site kept ticks disks (Tick changed) old run
-  block_run old run found changed verdict next ran =
+  pub block_run : (old run : Run) (found : ℕ) → verdict_of site body ≡ Ok found → is_next found (length ticks) ≡ true
+      → RanBlock site kept ticks body disks old run → HasReplied (AnswersIt Tick) site kept ticks disks Tick old run
+  block_run old run found verdict next ran =
       let after = tick_told site ran.failed body ∷ ticks in
-      let takes : TakesBlock site found body ticks after (Tick changed) =
+      let takes : TakesBlock site found body ticks after Tick =
       record {
-        runs = λ is. (ran.failed, changed, refl, refl);
+        runs = λ is. (ran.failed, refl, refl);
         refuses = λ other. both (is_next found (length ticks)) next other;
       } in
       record {
         after = after;
-        does = subst (λ v. AnswersBlock site body ticks after v (Tick changed)) (sym verdict) takes;
+        does = subst (λ v. AnswersBlock site body ticks after v Tick) (sym verdict) takes;
         stands = ran.stands;
-        at_hand = (tick_told site ran.failed body, ticks, refl, ran.shown, ran.same);
+        at_hand = (tick_told site ran.failed body, ticks, refl, ran.shown);
         stores = ran.stores;
         few = ran.few;
       }

@@ -75,15 +75,15 @@ table_told Wrote run there format same is wrote site kept ticks stands at_hand =
 
 -- ---- the text of a tick, behind its head
 
-module _ (old mid new : Option (List ℕ)) (run : Run) (changed : Bool) (head : List ℕ) (is : head ≡ answer_head Done Text) where
-  pub tick_written : Grows old mid head → TellsTick (Grows mid new) run → TellsReply (Grows old new) (TickOf changed) run
-  tick_written first tells site kept ticks stands (tick, before, same, shown, unchanged) =
+module _ (old mid new : Option (List ℕ)) (run : Run) (head : List ℕ) (is : head ≡ answer_head Done Text) where
+  pub tick_written : Grows old mid head → TellsTick (Grows mid new) run → TellsReply (Grows old new) TickOf run
+  tick_written first tells site kept ticks stands (tick, before, same, shown) =
       let told = tells site kept tick before (subst (λ ts. Stands site kept (at_rest ts) run) same stands) shown in
       subst (λ ts. Grows old new (answer_head Done Text ++ last_text site kept ts)) (sym same)
       (grows_more old mid new (answer_head Done Text) _ (subst (Grows old mid) is first) told)
 
-  pub tick_broken : Grows old mid head → TellsTick (GrowsByFront mid new) run → TellsReply (GrowsByFront old new) (TickOf changed) run
-  tick_broken first tells site kept ticks stands (tick, before, same, shown, unchanged) =
+  pub tick_broken : Grows old mid head → TellsTick (GrowsByFront mid new) run → TellsReply (GrowsByFront old new) TickOf run
+  tick_broken first tells site kept ticks stands (tick, before, same, shown) =
       let told = tells site kept tick before (subst (λ ts. Stands site kept (at_rest ts) run) same stands) shown in
       subst (λ ts. GrowsByFront old new (answer_head Done Text ++ last_text site kept ts)) (sym same) (
         answer_head Done Text ++ told.0,
@@ -92,7 +92,7 @@ module _ (old mid new : Option (List ℕ)) (run : Run) (changed : Bool) (head : 
         grows_more old mid new (answer_head Done Text) told.0 (subst (Grows old mid) is first) told.3,
       )
 
-  pub head_broken : GrowsByFront old new head → TellsReply (GrowsByFront old new) (TickOf changed) run
+  pub head_broken : GrowsByFront old new head → TellsReply (GrowsByFront old new) TickOf run
   head_broken (front, rest, parts, grows) site kept ticks stands at_hand = (
     front,
     rest ++ last_text site kept ticks,

@@ -30,9 +30,9 @@ use Rattle.site_types.specs.declared.site.Site.{Site}
 abbrev pub IsAtHand : Site → Retained → List TickBlock → Reply → Run → Type 0
 IsAtHand site kept ticks (Face panel) run = IsPanel site.panels panel
 IsAtHand site kept ticks Profile run = Unit {0}
-IsAtHand site kept ticks (Tick changed) run =
+IsAtHand site kept ticks Tick run =
     (tick : TickBlock) × (before : List TickBlock) × (ticks ≡ tick ∷ before)
-    × (run.next.items ≡ faces_of site kept (moments before)) × (changed ≡ false → run.next.items ≡ run.shown.items)
+    × (run.next.items ≡ faces_of site kept (moments before))
 IsAtHand site kept ticks (Other reply) run = Unit {0}
 
 -- a reply was made, and of the ticks that were run by its end something holds that tells what was done for it

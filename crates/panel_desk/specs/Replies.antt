@@ -45,8 +45,8 @@ other_tick count found = Other (Object Conflict (OtherTick (tick_expected count)
 -- a block of which no line is refused, and that begins this tick: it is run where it is the next one
 pub record TakesBlock (site : Site) (found : ℕ) (block : List ℕ) (before after : List TickBlock) (reply : Reply) :
     Type 0 where
-  pub runs : is_next found (length before) ≡ true → (failed changed : Bool)
-      × (after ≡ tick_told site failed block ∷ before) × (reply ≡ Tick changed)
+  pub runs : is_next found (length before) ≡ true → (failed : Bool)
+      × (after ≡ tick_told site failed block ∷ before) × (reply ≡ Tick)
   pub refuses : is_next found (length before) ≡ false → (after ≡ before) × (reply ≡ other_tick (length before) found)
 
 -- what comes of a block
@@ -92,14 +92,14 @@ abbrev pub reply_bytes : Site → Retained → List TickBlock → Reply → List
 reply_bytes site kept ticks (Face panel) =
     answer_head Done Json ++ face_object site (face_of site kept panel (moments ticks)) (length ticks)
 reply_bytes site kept ticks Profile = answer_head Done Json ++ table_text site.format
-reply_bytes site kept ticks (Tick changed) = answer_head Done Text ++ last_text site kept ticks
+reply_bytes site kept ticks Tick = answer_head Done Text ++ last_text site kept ticks
 reply_bytes site kept ticks (Other reply) = register_bytes reply
 
 -- the status of a reply
 abbrev pub status_of : Reply → Status
 status_of (Face panel) = Done
 status_of Profile = Done
-status_of (Tick changed) = Done
+status_of Tick = Done
 status_of (Other reply) = register_status reply
 
 abbrev pub stops_with : JsonObject → Bool
@@ -119,5 +119,5 @@ register_stops (Table bytes) = false
 abbrev pub is_stop : Reply → Bool
 is_stop (Face panel) = false
 is_stop Profile = false
-is_stop (Tick changed) = false
+is_stop Tick = false
 is_stop (Other reply) = register_stops reply

@@ -62,8 +62,8 @@ fn reply_to_block<D: Disk>(body: &[u8], run: &mut Run, disk: &mut D) -> Reply
         Err(refusal) => refused_line(refusal),
         Ok(found) => {
             if is_next(found, run.ticks()) {
-                let changed = run_block(found, body, run, disk);
-                Reply::Tick { changed }
+                run_block(found, body, run, disk);
+                Reply::Tick
             } else {
                 other_tick(run.ticks(), found)
             }

@@ -7,8 +7,8 @@ pub enum Reply {
     Face(u8),
     /// The profile's table.
     Profile,
-    /// The text of the tick that was run. Where it isn't changed, all panels show the same as before.
-    Tick { changed: bool },
+    /// The text of the tick that was run.
+    Tick,
     /// An object, or the table of the untested points.
     Other(RegisterReply),
 }

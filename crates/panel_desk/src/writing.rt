@@ -47,10 +47,10 @@ fn write_reply<K: Sink>(reply: &Reply, run: &mut Run, out: &mut K) -> Result<(),
             answer_face(run.site(), face, run.ticks(), out)
         }
         Reply::Profile => answer_table(&Profile::of(run.site().format), out),
-        Reply::Tick { changed } => {
+        Reply::Tick => {
             let text = head(Status::Done, Content::Text);
             write_all(out, text.as_str().as_bytes())?;
-            run.write_tick(*changed, out)
+            run.write_tick(out)
         }
         Reply::Other(reply) => write_register_reply(reply, out),
     }
@@ -89,7 +89,7 @@ fn status(reply: &Reply) -> Status
     ensures { result ≡ status_of reply.now }
 {
     match reply {
-        Reply::Face(_) | Reply::Profile | Reply::Tick { .. } => Status::Done,
+        Reply::Face(_) | Reply::Profile | Reply::Tick => Status::Done,
         Reply::Other(reply) => reply.status_of(),
     }
 }
@@ -101,6 +101,6 @@ fn stops(reply: &Reply) -> bool
     match reply {
         Reply::Other(RegisterReply::Object { object, .. }) => matches!(object, Object::Stopped),
         Reply::Other(RegisterReply::Table(_)) => false,
-        Reply::Face(_) | Reply::Profile | Reply::Tick { .. } => false,
+        Reply::Face(_) | Reply::Profile | Reply::Tick => false,
     }
 }

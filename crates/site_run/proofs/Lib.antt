@@ -5,7 +5,7 @@ mod GivenOrders
 pub mod Codes
 -- what is written of a tick: faces that changed, answers, and all that was written by then
 pub mod Results
-pub mod NextFaces
+pub mod AlikeFaces
 pub mod Faces
 pub mod SameFaces
 pub mod Answered

@@ -25,11 +25,13 @@ use Rattle.panel_core.specs.Keeping.{HasTurned, KeepsRun, MayTurnAll, has_failed
 use Rattle.panel_core.specs.Marks.{AreMarked, before_tick}
 use Rattle.panel_core.specs.Stands.{StandsFor as SystemStands}
 use Rattle.retained_journal.specs.declared.journal.Journal.{Journal}
+use Rattle.face_text.specs.Starts.{ArePassed}
 use Rattle.site_run.specs.declared.run.Run.{Run}
-use Rattle.site_run.specs.Acting.{MakesTick, MayShow, MayShowNext, TurnsAll, failures_with}
+use Rattle.site_run.specs.AlikeFaces.{ShowAlike}
+use Rattle.site_run.specs.Acting.{HasFaces, MakesTick, MayShow, ShowsNext, TurnsAll, failures_with}
 use Rattle.site_run.specs.Journals.{IsOpenFor}
 use Rattle.site_run.specs.Records.{Block, Progress, at_beginning, closed, closed_by, moments_by, new_block, ticked}
-use Rattle.site_run.specs.Records.{with_event}
+use Rattle.site_run.specs.Records.{moments_in, with_event}
 use Rattle.site_run.specs.Outside.{Disks, stored_new, stored_old}
 use Rattle.site_run.specs.Stands.{AreFew, HasRun, MayClose, Stands, Stores, after_close, order_by}
 use Rattle.run_text.specs.Failures.{failures}
@@ -58,8 +60,8 @@ events_more (x ∷ events) event before = events_more events event (Happened x �
 pub opened : (site : Site) (kept : Retained) (run : Run) → IsValid site → AreCounters kept.counters → IsOpenFor site kept run.journal
     → SystemStands site kept [] run.system → run.is_open ≡ false → run.canonical ≡ canonical_seats site.panels → run.ticks ≡ 0
     → run.store_failures ≡ 0 → run.shown.items ≡ faces_of site kept [] → length run.next.items ≡ site.panels
-    → (run.alike ≡ true → run.next.items ≡ run.shown.items) → Stands site kept at_beginning run
-opened site kept run valid counters opens stands shut canonical none fine shown room alike =
+    → ShowAlike run.alike run.next.items run.shown.items → ArePassed site run.starts → Stands site kept at_beginning run
+opened site kept run valid counters opens stands shut canonical none fine shown room alike starts =
     let tried = opens.tried in
     record {
       valid = valid;
@@ -75,6 +77,7 @@ opened site kept run valid counters opens stands shut canonical none fine shown 
       marks = λ panel member unmarked. refl;
       room = room;
       alike = alike;
+      starts = starts;
       count = none;
       failed = fine;
       few = (let start : 0 ≤ last_tick = lit≤ tt in start);
@@ -100,6 +103,7 @@ begun site kept ticks old system h stands marks few short =
       marks = marks;
       room = h.room;
       alike = h.alike;
+      starts = h.starts;
       count = h.count;
       failed = h.failed;
       few = omega (arith, few);
@@ -134,6 +138,7 @@ told_by site kept ticks (Some block) old event system h open_is stands marks sho
       shown = h.shown;
       room = h.room;
       alike = h.alike;
+      starts = h.starts;
       count = h.count;
       few = h.few;
       tried = h.tried;
@@ -250,7 +255,8 @@ pub record TickMade (store : Store) (turned run : Run) : Type 0 where
   pub ticks : run.ticks ≡ turned.ticks + 1
   pub failed : run.store_failures ≡ failures_with (has_failed store) turned.store_failures
   pub before : run.next.items ≡ turned.shown.items
-  pub alike : run.alike ≡ true → run.next.items ≡ run.shown.items
+  pub alike : ShowAlike run.alike run.next.items run.shown.items
+  pub starts : run.starts ≡ turned.starts
 
 module _ (site : Site) (kept : Retained) (store : Store) (old turned run : Run) (turns : TurnsAll old store turned) (made :
     TickMade store turned run) (shows : (before : List Moment) → SystemStands site kept before turned.system → IsRun site.panels before
@@ -296,6 +302,7 @@ module _ (site : Site) (kept : Retained) (store : Store) (old turned run : Run) 
               ap (λ (fs : List Face). length fs) (shown_were ∙ h.shown)
               ∙ length-map-range_with_len (λ panel. face_of site kept panel (moments ticks)) 1 site.panels;
           alike = made.alike;
+          starts = subst (ArePassed site) (sym (made.starts ∙ ap (λ (r : Run). r.starts) turns.rest)) h.starts;
           count = omega (arith, ticked_more, ticks_were, count);
           failed = made.failed ∙ ap (failures_with failed) (ap (λ (r : Run). r.store_failures) turns.rest ∙ h.failed);
           few = omega (arith, few);
@@ -422,6 +429,7 @@ with_page site kept p run page h =
       marks = h.marks;
       room = h.room;
       alike = h.alike;
+      starts = h.starts;
       count = h.count;
       failed = h.failed;
       few = h.few;
@@ -452,17 +460,55 @@ same_room site kept p run h =
     ∙ length-map-range_with_len (λ panel. face_of site kept panel (moments p.run)) 1 site.panels
     ∙ sym h.room
 
--- what they show may be put in place of what they showed
-pub may_show_next : (old turned : Run) (store : Store) (r : MayClose old) → TurnsAll old store turned → MayShowNext turned
-may_show_next old turned store r turns =
+-- what is at hand of the faces of a run
+pub has_faces : (site : Site) (kept : Retained) (p : Progress) (run : Run) → Stands site kept p run → HasFaces run
+has_faces site kept p run h =
+    record {
+      shows = record { site = site; kept = kept; before = moments_in p; stands = h.system; room = h.room };
+      room = same_room site kept p run h;
+      alike = h.alike;
+      passed = h.starts;
+    }
+
+-- the site of which it was shown is the one that the run stands for
+may_show_site : (site : Site) (kept : Retained) (ticks : List TickBlock) (o : Option Block) (old turned : Run) (store : Store)
+    (h : Stands site kept (record { run = ticks; block = o }) old) (open_is : old.is_open ≡ true) (turns : TurnsAll old store turned)
+    → (may_show_by site kept ticks o old turned store h open_is turns).site ≡ site
+unfolding may_show_by
+may_show_site site kept ticks None old turned store h open_is turns = not_open (sym open_is ∙ h.open_is)
+may_show_site site kept ticks (Some block) old turned store h open_is turns = refl
+
+-- and once the turns were made
+pub has_faces_turned : (old turned : Run) (store : Store) (r : MayClose old) → TurnsAll old store turned → HasFaces turned
+unfolding may_show
+has_faces_turned old turned store r turns =
     let same = turns.rest in
+    let h = r.stands in
     record {
       shows = may_show old turned store r turns;
       room =
-          ap (λ (run : Run). length run.shown.items) same ∙ same_room r.site r.kept r.p old r.stands
+          ap (λ (run : Run). length run.shown.items) same ∙ same_room r.site r.kept r.p old h
           ∙ sym (ap (λ (run : Run). length run.next.items) same);
-      alike = λ alike.
-          ap (λ (run : Run). run.next.items) same
-          ∙ r.stands.alike (sym (ap (λ (run : Run). run.alike) same) ∙ alike)
-          ∙ sym (ap (λ (run : Run). run.shown.items) same);
+      alike = subst (λ (run : Run). ShowAlike run.alike run.next.items run.shown.items) (sym same) h.alike;
+      passed =
+          subst (λ s. ArePassed s turned.starts) (sym (may_show_site r.site r.kept r.p.run r.p.block old turned store h r.open_is turns))
+          (subst (λ (run : Run). ArePassed r.site run.starts) (sym same) h.starts);
+    }
+
+-- and once what the panels show was put in place of what they showed
+pub has_faces_next : (old run : Run) → HasFaces old → ShowsNext old run → HasFaces run
+has_faces_next old run h next =
+    record {
+      shows = record {
+        site = h.shows.site;
+        kept = h.shows.kept;
+        before = h.shows.before;
+        stands =
+            subst (SystemStands h.shows.site h.shows.kept h.shows.before) (sym (ap (λ (r : Run). r.system) next.rest))
+            h.shows.stands;
+        room = ap (λ (fs : List Face). length fs) next.before ∙ h.room ∙ h.shows.room;
+      };
+      room = sym next.room;
+      alike = next.alike;
+      passed = subst (ArePassed h.shows.site) (sym (ap (λ (r : Run). r.starts) next.rest)) h.passed;
     }

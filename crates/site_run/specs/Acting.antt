@@ -1,15 +1,16 @@
 -- What each step makes of a run.
-use Rattle.std.specs.Prelude.{◌≡◌, ◌↔◌, ◌+◌, ◌<◌, ◌≤◌, ℕ, Bool, true, false, List, ◌∷◌}
+use Rattle.std.specs.Prelude.{◌≡◌, ◌↔◌, ◌+◌, ◌≤◌, ℕ, Bool, false, List, ◌∷◌}
 use Rattle.std.specs.Prelude.{length, Option, None, if◌then◌else◌}
 use Rattle.site_types.specs.declared.event.Event.{Event}
 use Rattle.site_types.specs.declared.retained.Retained.{Retained}
 use Rattle.site_types.specs.declared.site.Site.{Site}
 use Rattle.face_text.specs.declared.face.Face.{Face}
+use Rattle.face_text.specs.Starts.{ArePassed}
 use Rattle.keep_turn.specs.declared.store.Store.{Store}
 use Rattle.panel_core.specs.declared.system.System.{System}
 use Rattle.retained_journal.specs.Images.{HasRoom}
 use Rattle.panel_core.specs.Keeping.{LeavesAfterTurns, LeavesInTurns, MakesAllTurns}
-use Rattle.panel_core.specs.Marks.{AreMarked, MarksAllTurns, before_tick, is_marked}
+use Rattle.panel_core.specs.Marks.{AreMarked, MarksAllTurns, before_tick}
 use Rattle.panel_core.specs.Stands.{StandsFor as SystemStands}
 use Rattle.panel_rules.specs.Moments.{Moment, IsRun, TickBlock, moments}
 use Rattle.panel_rules.specs.Timeline.{face_of, faces_of}
@@ -17,6 +18,7 @@ use Rattle.run_text.specs.SoFar.{tick_text}
 use Rattle.record_lines.specs.Events.{event_view}
 use Rattle.record_lines.specs.declared.line.Line.TheVariants.{Event as EventLine}
 use Rattle.site_run.specs.declared.run.Run.{Run}
+use Rattle.site_run.specs.AlikeFaces.{ShowAlike}
 use Rattle.site_run.specs.Records.{Progress, after_line, closed, moments_in}
 use Rattle.site_run.specs.Outside.{Disks, outside_after, outside_before, stored_new, stored_old}
 use Rattle.site_run.specs.Stands.{AreFew, Stands, Stores, Writes, BreaksTick, after_close, order_by}
@@ -51,16 +53,13 @@ ShowAllNow system shown old faces =
     → length old ≡ site.panels → shown ≡ faces_of site kept (before_tick before)
     → faces ≡ faces_of site kept before
 
--- none of so many panels is marked
-abbrev pub NoneMarked : System → ℕ → Type 0
-NoneMarked system panels =
-    (place : ℕ) → place < panels → is_marked system.changed (place + 1) ≡ false
-
--- what the panels show may be put in place of what they showed
-pub record MayShowNext (run : Run) : Type 0 where
+-- the faces at hand are those of a site's panels, before and after: what the panels show may be put in place of what
+-- they showed, and what they show otherwise may be told
+pub record HasFaces (run : Run) : Type 0 where
   pub shows : MayShow run.system run.next.items
   pub room : length run.shown.items ≡ length run.next.items
-  pub alike : run.alike ≡ true → run.next.items ≡ run.shown.items
+  pub alike : ShowAlike run.alike run.next.items run.shown.items
+  pub passed : ArePassed shows.site run.starts
 
 -- what the panels show was put in place of what they showed, and what they showed before is at hand
 pub record ShowsNext (old run : Run) : Type 0 where
@@ -68,7 +67,7 @@ pub record ShowsNext (old run : Run) : Type 0 where
   pub before : run.next.items ≡ old.shown.items
   pub shows : ShowAllNow old.system old.shown.items old.next.items run.shown.items
   pub room : length run.next.items ≡ length run.shown.items
-  pub alike : run.alike ≡ true → run.next.items ≡ run.shown.items
+  pub alike : ShowAlike run.alike run.next.items run.shown.items
 
 -- an event was told, with the bytes of its code alone
 abbrev pub TellsEvent : Event → Run → Run → Type 0

@@ -3,6 +3,7 @@ pub mod Records
 pub mod Stands
 pub mod Acting
 -- what is written of a tick, and by the run so far
+pub mod AlikeFaces
 pub mod Pages
 pub mod Writings
 -- the journal and its disk: as a run opens and leaves them, and after a power cut

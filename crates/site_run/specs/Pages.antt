@@ -1,12 +1,21 @@
 -- What is written of a tick, by the faces before and after it and by what was answered in it.
-use Rattle.std.specs.Prelude.{ℕ, ◌==◌, ◌||◌, not, Bool, List, [], ◌++◌, length, if◌then◌else◌}
+use Rattle.std.specs.Prelude.{◌≡◌, ℕ, ◌==◌, ◌||◌, not, Bool, List, [], ◌++◌, length, if◌then◌else◌}
 use Rattle.std.specs.List.{list_any}
 use Rattle.site_types.specs.declared.site.Site.{Site}
 use Rattle.face_text.specs.declared.answers.Answers.{Answers}
 use Rattle.face_text.specs.declared.face.Face.{Face}
 use Rattle.face_text.specs.Answers.{answers_text}
 use Rattle.face_text.specs.Faces.{has_some, same_faces}
+use Rattle.face_text.specs.Starts.{ArePassed}
 use Rattle.face_text.specs.Timelines.{faces_text, tick_line}
+use Rattle.site_run.specs.declared.tick_faces.TickFaces.{TickFaces}
+use Rattle.site_run.specs.AlikeFaces.{ShowAlike}
+
+-- both lists have a face of each panel, and what is known of them is so: which are alike, and where names begin
+pub record AreTellable (faces : TickFaces) : Type 0 where
+  pub room : length faces.before.now ≡ length faces.after.now
+  pub alike : ShowAlike faces.alike.now faces.before.now faces.after.now
+  pub passed : ArePassed faces.site.now faces.starts.now
 
 -- something was answered, an operation found its panel busy, or Keep's turn failed
 abbrev pub has_answers : Answers → Bool

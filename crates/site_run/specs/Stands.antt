@@ -19,7 +19,9 @@ use Rattle.panel_rules.specs.Timeline.{faces_of}
 use Rattle.panel_core.specs.Keeping.{KeepsRun}
 use Rattle.panel_core.specs.Marks.{AreMarked}
 use Rattle.panel_core.specs.Stands.{StandsFor as SystemStands}
+use Rattle.face_text.specs.Starts.{ArePassed}
 use Rattle.site_run.specs.declared.run.Run.{Run}
+use Rattle.site_run.specs.AlikeFaces.{ShowAlike}
 use Rattle.site_run.specs.Records.{Block, Progress, at_beginning, closed, new_block}
 use Rattle.site_run.specs.Records.{with_order}
 use Rattle.site_run.specs.Records.{moments_in}
@@ -57,7 +59,8 @@ pub record Stands (site : Site) (kept : Retained) (p : Progress) (run : Run) : T
   pub shown : run.shown.items ≡ faces_of site kept (moments p.run)
   pub marks : AreMarked site kept (moments_in p) run.system.changed
   pub room : length run.next.items ≡ site.panels
-  pub alike : run.alike ≡ true → run.next.items ≡ run.shown.items
+  pub alike : ShowAlike run.alike run.next.items run.shown.items
+  pub starts : ArePassed site run.starts
   pub count : run.ticks ≡ length p.run
   pub failed : run.store_failures ≡ failures p.run
   pub few : length (closed false p) ≤ last_tick

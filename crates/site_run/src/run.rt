@@ -1,17 +1,17 @@
-ghost use Rattle.std.specs.Prelude.{◌≡◌, ◌<◌, ◌-◌, ◌^◌, ◌||◌, IfOk, OnErr, OnOk, false, length, map};
+ghost use Rattle.std.specs.Prelude.{◌≡◌, ◌<◌, ◌-◌, ◌^◌, IfOk, OnErr, OnOk, length, map, true};
 ghost use Rattle.std.specs.List.{range_with_len};
 ghost use Rattle.face_text.specs.Faces.{empty_face};
 ghost use Rattle.face_text.specs.Timelines.{empty_faces};
 ghost use Rattle.panel_core.specs.Keeping.{has_failed};
-ghost use Rattle.panel_core.specs.Marks.{is_marked};
 ghost use Rattle.panel_core.specs.ShownFaces.{ShowsFace};
 ghost use Rattle.panel_core.specs.Stands.{HasPanel};
 ghost use Rattle.panel_parts.specs.Stands.{HasPlan};
 ghost use Rattle.panel_edges.specs.Contents.{Grows, GrowsByFront};
 ghost use Rattle.panel_edges.specs.Faults.{HasCause};
+ghost use Rattle.site_run.specs.AlikeFaces.{ShowAlike};
 ghost use Rattle.site_run.specs.Acting.{ClosesBadly, ClosesWell, MakesTicks, MayShow, ShowsFaces, TellsTick};
 ghost use Rattle.site_run.specs.Acting.{TellsEvent};
-ghost use Rattle.site_run.specs.Acting.{LeavesInTick, MayShowNext, NoneMarked, ShowAllNow, ShowsNext, ShowsNow};
+ghost use Rattle.site_run.specs.Acting.{HasFaces, LeavesInTick, ShowAllNow, ShowsNext, ShowsNow};
 ghost use Rattle.site_run.specs.Acting.{TurnsAll};
 ghost use Rattle.site_run.specs.Acting.{failures_with};
 ghost use Rattle.site_run.specs.Disks.{KeepsOn, TurnsOn};
@@ -27,9 +27,10 @@ ghost use Rattle.site_types.specs.declared.retained.Retained.{Retained as Retain
 ghost use Rattle.site_types.specs.declared.site.Site.{Site as SiteOf};
 
 use crate::sized::note_sized;
+use crate::tick_faces::TickFaces;
 use crate::writing::{PAGE_BYTES, TickPage, write_opening};
 use cause_effect::{Plan, Steps};
-use face_text::Face;
+use face_text::{Face, Starts};
 use panel_core::{Store, System};
 use panel_edges::{Disk, Failed, NoMemory, Sink, SoundMemorySink};
 use retained_journal::Journal;
@@ -49,8 +50,8 @@ pub struct Run {
     pub(crate) shown: Vec<Face>,
     // Where what they show next is put.
     pub(crate) next: Vec<Face>,
-    // Whether both are the same, so that nothing has to be put where nothing changed.
-    pub(crate) alike: bool,
+    // Of which panels both are the same, so that nothing has to be put where nothing changed.
+    pub(crate) alike: [bool; 8],
     // Whether the block of a tick is being read, whose turns are yet to be made.
     pub(crate) is_open: bool,
     // The order of its turns, where the record gives one.
@@ -59,6 +60,8 @@ pub struct Run {
     // How many ticks were run, and in how many of them Keep's turn failed.
     pub(crate) ticks: u64,
     pub(crate) store_failures: u64,
+    // Where the things of each panel begin in the site's lists.
+    pub(crate) starts: Starts,
     // Where the text of a tick is put together before it is written.
     pub(crate) page: SoundMemorySink,
 }
@@ -76,6 +79,7 @@ impl Run {
         let canonical = Order::canonical(site.panels);
         let panels = site.panels;
         note_sized(journal.kept());
+        let starts = Starts::of(&site);
         let Ok(system) = System::open(alloc, site, plan, journal.kept()) else {
             return Err(NoMemory);
         };
@@ -92,12 +96,13 @@ impl Run {
             journal,
             shown,
             next,
-            alike: false,
+            alike: [false; 8],
             is_open: false,
             order: None,
             canonical,
             ticks: 0,
             store_failures: 0,
+            starts,
             page,
         })
     }
@@ -199,15 +204,14 @@ impl Run {
         if !self.is_open {
             return Ok(());
         }
-        let changed = self.make_turns(disk);
-        self.write_tick(changed, out)
+        self.make_turns(disk);
+        self.write_tick(out)
     }
 
     /// Writes what changed in the tick whose turns were made last and was answered in it, in one piece where it fits
     /// the page; where there is nothing to tell nothing is written.
-    pub fn write_tick<K: Sink>(&mut self, changed: bool, out: &mut K) -> Result<(), Failed>
-        requires room { length self.old.next.items ≡ length self.old.shown.items }
-        requires same { changed ≡ false → self.old.next.items ≡ self.old.shown.items }
+    pub fn write_tick<K: Sink>(&mut self, out: &mut K) -> Result<(), Failed>
+        requires { HasFaces self.old }
         ensures ok { OnOk result
             (TellsTick (Grows (K.written out.old) (K.written out.new)) self.old) }
         ensures err { OnErr result
@@ -218,26 +222,28 @@ impl Run {
         ensures reads { K.read_faults out.new ≡ K.read_faults out.old }
     {
         let page = TickPage {
-            site: self.system.site(),
             tick: self.ticks,
-            changed,
-            before: self.next.as_slice(),
-            after: self.shown.as_slice(),
+            faces: TickFaces {
+                site: self.system.site(),
+                starts: &self.starts,
+                alike: &self.alike,
+                before: self.next.as_slice(),
+                after: self.shown.as_slice(),
+            },
             answers: self.system.answers(),
         };
         page.write(&mut self.page, out)
     }
 
     /// Makes the turns of the tick whose block was read. What was shown before it is at hand for
-    /// [`Run::write_tick`] then, with the answer: whether something else may be shown.
-    pub fn make_turns<D: Disk>(&mut self, disk: &mut D) -> bool
+    /// [`Run::write_tick`] then.
+    pub fn make_turns<D: Disk>(&mut self, disk: &mut D)
         requires may { MayClose self.old }
         requires stands { StandsOn D.honest D.images disk.old self.old.journal }
         ensures makes { MakesTicks
             (disks_of D.honest D.images D.moment D.left_since disk.old disk.new)
             self.old self.new }
-        ensures room { length self.new.next.items ≡ length self.new.shown.items }
-        ensures same { result ≡ false → self.new.next.items ≡ self.new.shown.items }
+        ensures faces { HasFaces self.new }
         ensures disk { KeepsOn D.honest D.images D.faults disk.old disk.new self.old self.new }
     {
         // the counter of steps is let go
@@ -245,23 +251,21 @@ impl Run {
         self.store_failures = with_failure(self.store_failures, store);
         self.is_open = false;
         self.ticks += 1;
-        self.show_next()
+        self.show_next();
     }
 
-    // Shows what the panels show after the turns, with what they showed before at hand. Tells whether it may be
-    // something else.
-    fn show_next(&mut self) -> bool
-        requires { MayShowNext self.old }
-        ensures shows { ShowsNext self.old self.new }
-        ensures same { result ≡ false → self.new.next.items ≡ self.new.shown.items }
+    // Shows what the panels show after the turns, with what they showed before at hand.
+    fn show_next(&mut self)
+        requires { HasFaces self.old }
+        ensures { ShowsNext self.old self.new }
     {
-        if self.alike && !is_any_marked(&self.system, self.next.as_slice()) {
-            return false;
-        }
-        let changed = show_now(&self.system, self.shown.as_slice(), &mut self.next);
+        show_now(
+            &self.system,
+            self.shown.as_slice(),
+            &mut self.alike,
+            &mut self.next,
+        );
         mem::swap(&mut self.shown, &mut self.next);
-        self.alike = !changed;
-        changed
     }
 
     // Each seat has its turn, in the order that was given, else in the canonical one.
@@ -282,10 +286,10 @@ impl Run {
         match &self.order {
             Some(order) => self
                 .system
-                .turns(order, &mut self.journal, disk, &mut steps),
+                .turns(order, false, &mut self.journal, disk, &mut steps),
             None => self
                 .system
-                .turns(&self.canonical, &mut self.journal, disk, &mut steps),
+                .turns(&self.canonical, true, &mut self.journal, disk, &mut steps),
         }
     }
 }
@@ -323,52 +327,42 @@ fn show(system: &System, faces: &mut Vec<Face>)
     }
 }
 
-// What the panels show, with what they showed at the end of the tick before. Tells whether it may be something else.
-fn show_now(system: &System, shown: &[Face], faces: &mut Vec<Face>) -> bool
+// What the panels show, with what they showed at the end of the tick before. Where a panel is marked as alike, its face
+// is what it showed already.
+fn show_now(system: &System, shown: &[Face], alike: &mut [bool; 8], faces: &mut Vec<Face>)
     requires may { MayShow system.now faces.old.items }
     requires before { length shown.now ≡ length faces.old.items }
+    requires alike { ShowAlike alike.old faces.old.items shown.now }
     ensures shows { ShowAllNow system.now shown.now faces.old.items faces.new.items }
-    ensures same { result ≡ false → faces.new.items ≡ shown.now }
+    ensures alike { ShowAlike alike.new faces.new.items shown.now }
     ensures room { length faces.new.items ≡ length faces.old.items }
 {
-    let mut changed = false;
     for place in 0..faces.len() {
         let panel = place as u8 + 1;
-        changed = either(changed, system.has_changed(panel));
-        put_face(system, panel, &shown[place], &mut faces[place]);
+        put_face(
+            system,
+            panel,
+            &shown[place],
+            &mut alike[place],
+            &mut faces[place],
+        );
     }
-    changed
 }
 
-// Whether some panel is marked.
-fn is_any_marked(system: &System, faces: &[Face]) -> bool
-    requires { MayShow system.now faces.now }
-    ensures { result ≡ false → NoneMarked system.now (length faces.now) }
-{
-    for place in 0..faces.len() {
-        if system.has_changed(place as u8 + 1) {
-            return true;
-        }
-    }
-    false
-}
-
-fn either(one: bool, other: bool) -> bool
-    ensures { result ≡ (one || other) }
-{
-    one || other
-}
-
-// Puts what a panel shows, with what it showed at the end of the tick before.
-fn put_face(system: &System, panel: u8, shown: &Face, face: &mut Face)
-    requires { HasPanel panel system.now }
+// Puts what a panel shows, with what it showed at the end of the tick before, and whether both are known to be the
+// same.
+fn put_face(system: &System, panel: u8, shown: &Face, alike: &mut bool, face: &mut Face)
+    requires panel { HasPanel panel system.now }
+    requires alike { alike.old ≡ true → face.old ≡ shown.now }
     ensures shows { ShowsNow system.now panel shown.now face.new }
-    ensures same { is_marked system.now.changed panel ≡ false → face.new ≡ shown.now }
+    ensures alike { alike.new ≡ true → face.new ≡ shown.now }
 {
     if system.has_changed(panel) {
         put_new_face(system, panel, face);
-    } else {
+        *alike = false;
+    } else if !*alike {
         *face = *shown;
+        *alike = true;
     }
 }
 

@@ -28,6 +28,6 @@ returns-clause-runs g c site kept ticks may =
     let with = begun_with site kept ticks c.args.tick c.args.block.now c.args.run.now c.begin.new.self may c.begin.ensures.opens
     c.behind_first_line.result.now c.behind_first_line.ensures in
     let disks = disks_of g.D.Disk.honest g.D.Disk.images g.D.Disk.moment g.D.Disk.left_since c.args.disk.now c.make_turns.new.disk in
-    ran_block site kept ticks c.args.tick c.args.block.now disks c.make_turns.result c.args.run.now c.tell_lines.new.run c.make_turns.new.self may
+    ran_block site kept ticks c.args.tick c.args.block.now disks c.args.run.now c.tell_lines.new.run c.make_turns.new.self may
     c.behind_first_line.result.now c.behind_first_line.ensures (c.tell_lines.ensures.tells site kept ticks with)
-    (c.tell_lines.ensures.journal ∙ c.begin.ensures.same) (c.make_turns.ensures.makes site kept _) c.make_turns.ensures.same
+    (c.tell_lines.ensures.journal ∙ c.begin.ensures.same) (c.make_turns.ensures.makes site kept _)

@@ -23,8 +23,8 @@ returns-in-Err-clause-replies g c site kept ticks stands room =
     let verdict = ap (λ s. verdict_of s body) (sym same) ∙ sym c.tick_of_block.ensures ∙ c.in-Err.is in
     refused_block site kept ticks body disks c.args.run.now c.in-Err.refusal c.refused_line.result refl stands verdict c.refused_line.ensures
 
-pub run_block-changed-requires-clause-may : goal.run_block-changed-requires-clause-may
-run_block-changed-requires-clause-may g c =
+pub run_block-requires-clause-may : goal.run_block-requires-clause-may
+run_block-requires-clause-may g c =
     let r = c.requires.may.1 in
     let body = c.args.body.now in
     let verdict = ap (λ s. verdict_of s body) (sym (c.site.ensures r.site r.kept _ r.stands)) ∙ sym c.tick_of_block.ensures ∙ c.in-Ok.is in
@@ -41,12 +41,12 @@ pub returns-then-is_next-clause-replies : goal.returns-then-is_next-clause-repli
 returns-then-is_next-clause-replies g c site kept ticks stands room =
     let r = c.requires.may.1 in
     let body = c.args.body.now in
-    let disks = disks_of g.D.Disk.honest g.D.Disk.images g.D.Disk.moment g.D.Disk.left_since c.args.disk.now c.run_block-changed.new.disk in
+    let disks = disks_of g.D.Disk.honest g.D.Disk.images g.D.Disk.moment g.D.Disk.left_since c.args.disk.now c.run_block.new.disk in
     let verdict = ap (λ s. verdict_of s body) (sym (c.site.ensures site kept _ stands)) ∙ sym c.tick_of_block.ensures ∙ c.in-Ok.is in
     let next = ap (λ n. is_next c.in-Ok.found n) (sym c.ticks.ensures) ∙ sym c.is_next.ensures ∙ c.if-is_next.true in
     let may = may_run site kept ticks body disks c.args.run.now c.in-Ok.found stands room r.short verdict next in
-    block_run site kept ticks body disks c.args.run.now c.run_block-changed.new.run c.in-Ok.found c.run_block-changed.result verdict may.next
-    (c.run_block-changed.ensures.runs site kept ticks may)
+    block_run site kept ticks body disks c.args.run.now c.run_block.new.run c.in-Ok.found verdict may.next
+    (c.run_block.ensures.runs site kept ticks may)
 
 pub returns-else-is_next-clause-replies : goal.returns-else-is_next-clause-replies
 returns-else-is_next-clause-replies g c site kept ticks stands room =

@@ -4,6 +4,7 @@ use Rattle.panel_desk.proofs.Sending.{face_there, face_told, head_broken, of_err
 use Rattle.panel_desk.specs.Acting.{TellsReply}
 use Rattle.panel_edges.specs.Contents.{Grows, GrowsByFront}
 use Rattle.site_run.proofs.Results.{on_err, on_ok}
+use Rattle.site_run.proofs.Stood.{has_faces}
 use Rattle.panel_desk.proofs.writing.write_reply.Goals as goal
 
 pub bounds-shown-panel : goal.bounds-shown-panel
@@ -43,15 +44,18 @@ pub returns-in_err-write_all-in-Tick-clause-err : goal.returns-in_err-write_all-
 returns-in_err-write_all-in-Tick-clause-err g c =
     of_err c.from_residual.result c.from_residual.ensures.0
     (subst (λ r. TellsReply (GrowsByFront (g.K.Stream.written c.args.out.now) (g.K.Stream.written c.write_all.new.out)) r c.args.run.now) (sym c.in-Tick.is)
-    (head_broken (g.K.Stream.written c.args.out.now) (g.K.Stream.written c.write_all.new.out) (g.K.Stream.written c.write_all.new.out) c.args.run.now c.in-Tick.changed
+    (head_broken (g.K.Stream.written c.args.out.now) (g.K.Stream.written c.write_all.new.out) (g.K.Stream.written c.write_all.new.out) c.args.run.now
     c.as_bytes.result.now (c.as_bytes.ensures.value ∙ c.as_str.ensures.value ∙ c.head-text.ensures.text) c.in_err-write_all-in-Tick.ensures.err))
+
+pub write_tick-requires : goal.write_tick-requires
+write_tick-requires g c = let r = c.requires.may in has_faces r.site r.kept _ c.args.run.now r.stands
 
 pub returns-in_ok-write_all-in-Tick-clause-ok : goal.returns-in_ok-write_all-in-Tick-clause-ok
 returns-in_ok-write_all-in-Tick-clause-ok g c =
     subst (λ r. OnOk c.write_tick.result (TellsReply (Grows (g.K.Stream.written c.args.out.now) (g.K.Stream.written c.write_tick.new.out)) r c.args.run.now)) (sym c.in-Tick.is)
     (on_ok c.write_tick.result
     (tick_written (g.K.Stream.written c.args.out.now) (g.K.Stream.written c.write_all.new.out) (g.K.Stream.written c.write_tick.new.out) c.args.run.now
-    c.in-Tick.changed c.as_bytes.result.now (c.as_bytes.ensures.value ∙ c.as_str.ensures.value ∙ c.head-text.ensures.text) c.in_ok-write_all-in-Tick.ensures.ok)
+    c.as_bytes.result.now (c.as_bytes.ensures.value ∙ c.as_str.ensures.value ∙ c.head-text.ensures.text) c.in_ok-write_all-in-Tick.ensures.ok)
     c.write_tick.ensures.ok)
 
 pub returns-in_ok-write_all-in-Tick-clause-err : goal.returns-in_ok-write_all-in-Tick-clause-err
@@ -59,5 +63,5 @@ returns-in_ok-write_all-in-Tick-clause-err g c =
     subst (λ r. OnErr c.write_tick.result (TellsReply (GrowsByFront (g.K.Stream.written c.args.out.now) (g.K.Stream.written c.write_tick.new.out)) r c.args.run.now)) (sym c.in-Tick.is)
     (on_err c.write_tick.result
     (tick_broken (g.K.Stream.written c.args.out.now) (g.K.Stream.written c.write_all.new.out) (g.K.Stream.written c.write_tick.new.out) c.args.run.now
-    c.in-Tick.changed c.as_bytes.result.now (c.as_bytes.ensures.value ∙ c.as_str.ensures.value ∙ c.head-text.ensures.text) c.in_ok-write_all-in-Tick.ensures.ok)
+    c.as_bytes.result.now (c.as_bytes.ensures.value ∙ c.as_str.ensures.value ∙ c.head-text.ensures.text) c.in_ok-write_all-in-Tick.ensures.ok)
     c.write_tick.ensures.err)

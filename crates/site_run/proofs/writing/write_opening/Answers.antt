@@ -1,7 +1,12 @@
 use Rattle.std.proofs.Common.{◌++◌, ◌∙◌, [], append-nil, ap, sym}
 use Rattle.face_text.proofs.Holding.{all_written, front_of, moves_more, moves_none, part_written}
 use Rattle.face_text.specs.Timelines.{faces_text}
+use Rattle.site_run.proofs.AlikeFaces.{none_alike}
 use Rattle.site_run.proofs.writing.write_opening.Goals as goal
+
+pub push_faces-requires : goal.push_faces-requires
+push_faces-requires g c =
+    record { room = c.requires; alike = none_alike c.args.before.now c.args.after.now; passed = c.none.ensures c.args.site.now }
 
 pub returns-in_err-push-clause-err : goal.returns-in_err-push-clause-err
 returns-in_err-push-clause-err g c =

@@ -10,6 +10,12 @@ use Rattle.node_desk.specs.Serving.{WroteBy}
 use Rattle.node_desk.proofs.Served.{served_not, served_so}
 use Rattle.node_desk.proofs.desk.NodeDesk.serve_one.Goals as goal
 
+pub send-requires : goal.send-requires
+send-requires g c =
+    let r = c.requires.may in
+    let replied = c.reply_to-reply.ensures.replies r.site r.panel r.kept r.history r.ticks r.runs r.room in
+    record { site = r.site; panel = r.panel; kept = r.kept; history = replied.after; ticks = replied.next; runs = replied.runs }
+
 pub returns-in-Ok-clause-serves : goal.returns-in-Ok-clause-serves
 returns-in-Ok-clause-serves g c site panel kept history ticks h room =
     let disks = disks_of g.D.Disk.honest g.D.Disk.images g.D.Disk.moment g.D.Disk.left_since c.args.disk.now c.reply_to-reply.new.disk in

@@ -32,7 +32,7 @@ returns-clause-makes g c site panel kept history ticks events h =
     stores_turns site panel kept history ticks events old h disks turns.result turns.new.journal turns.new.self turns.ensures.turns turns.ensures.leaves.same
     turns.ensures.leaves.keeps_honest turns.ensures.leaves.early turns.ensures.moments turns.ensures.cut in
     made_tick site panel kept history ticks events old h disks turns.result turns.new.journal turns.new.self turns.ensures.turns turns.ensures.leaves.same
-    c.face-self.result c.face-self.ensures.shown _ refl refl refl refl refl c.with_failure-self.ensures stores
+    c.face-self.result c.face-self.ensures.shown _ refl refl refl refl refl refl c.with_failure-self.ensures stores
 
 pub returns-clause-disk : goal.returns-clause-disk
 returns-clause-disk g c =

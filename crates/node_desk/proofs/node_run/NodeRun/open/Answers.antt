@@ -19,4 +19,5 @@ returns-clause-stands c =
       shown = c.face-shown.ensures.shown site c.args.panel kept [] stands tt;
       failed = refl;
       few = (let start : 0 ≤ last_tick = lit≤ tt in start);
+      starts = c.of-starts.ensures;
     }

@@ -67,7 +67,7 @@ returns-in-Framed-clause-replies g c site panel kept history ticks h room =
     c.digest.ensures h.own c.read_input.ensures.came in
     let run = record old { node = c.receive.new.self } in
     subst (λ came. HasReplied site panel kept old.node.digest history ticks bytes came disks old reply.Frame run) is
-    (replied_frame site panel kept old.node.digest history ticks bytes disks old h c.in-Framed.frame run refl c.receive.ensures.takes refl refl refl refl)
+    (replied_frame site panel kept old.node.digest history ticks bytes disks old h c.in-Framed.frame run refl c.receive.ensures.takes refl refl refl refl refl)
 
 pub returns-in-BadFrame-clause-replies : goal.returns-in-BadFrame-clause-replies
 returns-in-BadFrame-clause-replies g c site panel kept history ticks h room =

@@ -38,7 +38,7 @@ make_turns-requires-clause-may g c =
       ticks = r.ticks;
       events = _;
       begun = has_begun r.site r.panel r.kept r.history r.ticks c.args.tick c.args.block.now c.args.self.now r.with c.begin.new.self c.begin.ensures.begins rest is
-          c.tell_lines.new.node lines _ refl refl refl refl refl;
+          c.tell_lines.new.node lines _ refl refl refl refl refl refl;
     }
 
 pub returns-clause-runs : goal.returns-clause-runs
@@ -52,6 +52,6 @@ returns-clause-runs g c site panel kept history ticks may =
     let disks = disks_of g.D.Disk.honest g.D.Disk.images g.D.Disk.moment g.D.Disk.left_since c.args.disk.now c.make_turns.new.disk in
     let with = begun_with site panel kept history ticks tick block old may c.begin.new.self begins rest is in
     let lines = c.tell_lines.ensures.tells site panel kept history ticks with in
-    let begun = has_begun site panel kept history ticks tick block old may c.begin.new.self begins rest is c.tell_lines.new.node lines _ refl refl refl refl refl in
+    let begun = has_begun site panel kept history ticks tick block old may c.begin.new.self begins rest is c.tell_lines.new.node lines _ refl refl refl refl refl refl in
     ran_block site panel kept history ticks tick block old may c.begin.new.self begins rest is c.tell_lines.new.node lines disks _ c.make_turns.new.self refl refl
     (c.make_turns.ensures.makes site panel kept history ticks _ begun)

@@ -41,37 +41,37 @@ returns-then-not-self-clause-ok g c site kept p h short =
 
 pub returns-clause-ok : goal.returns-clause-ok
 returns-clause-ok g c =
-    let disks = disks_of g.D.Disk.honest g.D.Disk.images g.D.Disk.moment g.D.Disk.left_since c.args.disk.now c.make_turns-changed.new.disk in
+    let disks = disks_of g.D.Disk.honest g.D.Disk.images g.D.Disk.moment g.D.Disk.left_since c.args.disk.now c.make_turns.new.disk in
     let old = g.K.Stream.written c.args.out.now in
     let new = g.K.Stream.written c.write_tick.new.out in
     let run = c.write_tick.new.self in
     on_ok c.write_tick.result
     (λ wrote site kept p h short.
-    let made = c.make_turns-changed.ensures.makes site kept p h short in
-    told_more disks (Grows old new) site kept c.args.self.now c.make_turns-changed.new.self wrote
+    let made = c.make_turns.ensures.makes site kept p h short in
+    told_more disks (Grows old new) site kept c.args.self.now c.make_turns.new.self wrote
     (Writes site kept (outside_before disks old c.args.self.now) (outside_after disks new run)) p run c.write_tick.ensures.rest h
     c.if-not-self.false made
     (λ text stores. record {
       text = text;
-      stores = stores_as site kept (stored_old disks c.args.self.now) (stored_new disks c.make_turns-changed.new.self) _ _ run.journal
+      stores = stores_as site kept (stored_old disks c.args.self.now) (stored_new disks c.make_turns.new.self) _ _ run.journal
           (ap (λ (r : Run). r.journal) c.write_tick.ensures.rest) stores;
     }))
     c.write_tick.ensures.ok
 
 pub returns-clause-err : goal.returns-clause-err
 returns-clause-err g c =
-    let disks = disks_of g.D.Disk.honest g.D.Disk.images g.D.Disk.moment g.D.Disk.left_since c.args.disk.now c.make_turns-changed.new.disk in
+    let disks = disks_of g.D.Disk.honest g.D.Disk.images g.D.Disk.moment g.D.Disk.left_since c.args.disk.now c.make_turns.new.disk in
     let old = g.K.Stream.written c.args.out.now in
     let new = g.K.Stream.written c.write_tick.new.out in
     let run = c.write_tick.new.self in
     on_err c.write_tick.result
     (λ wrote site kept p h short.
-    let made = c.make_turns-changed.ensures.makes site kept p h short in
-    told_more disks (GrowsByFront old new) site kept c.args.self.now c.make_turns-changed.new.self wrote
+    let made = c.make_turns.ensures.makes site kept p h short in
+    told_more disks (GrowsByFront old new) site kept c.args.self.now c.make_turns.new.self wrote
     (BreaksTick site kept (outside_before disks old c.args.self.now) (outside_after disks new run)) p run c.write_tick.ensures.rest h
     c.if-not-self.false made
     (λ text stores. part_of site kept c.args.self.now p h c.if-not-self.false made.failed (outside_before disks old c.args.self.now)
     (outside_after disks new run) text
-    (stores_as site kept (stored_old disks c.args.self.now) (stored_new disks c.make_turns-changed.new.self) _ _ run.journal
+    (stores_as site kept (stored_old disks c.args.self.now) (stored_new disks c.make_turns.new.self) _ _ run.journal
     (ap (λ (r : Run). r.journal) c.write_tick.ensures.rest) stores)))
     c.write_tick.ensures.err

@@ -5,7 +5,7 @@ use Rattle.site_run.specs.declared.run.Run.{Run}
 use Rattle.site_run.specs.Outside.{disks_of, stored_old}
 use Rattle.site_run.specs.Records.{ticked}
 use Rattle.site_run.specs.Stands.{Stores}
-use Rattle.site_run.proofs.Stood.{failed_few, makes, may_show_next, same_room}
+use Rattle.site_run.proofs.Stood.{failed_few, has_faces_next, has_faces_turned, makes}
 use Rattle.site_run.proofs.TickCuts.{stores_tick}
 use Rattle.site_run.proofs.run.Run.make_turns.Goals as goal
 
@@ -18,13 +18,13 @@ with_failure-self-requires g c =
 
 pub show_next-requires : goal.show_next-requires
 show_next-requires g c =
-    let may = may_show_next c.args.self.now c.turn_all-store.new.self c.turn_all-store.result c.requires.may c.turn_all-store.ensures.turns in
-    record { shows = may.shows; room = may.room; alike = may.alike }
+    let may = has_faces_turned c.args.self.now c.turn_all-store.new.self c.turn_all-store.result c.requires.may c.turn_all-store.ensures.turns in
+    record { shows = may.shows; room = may.room; alike = may.alike; passed = may.passed }
 
 pub returns-clause-makes : goal.returns-clause-makes
 returns-clause-makes g c site kept p h short =
     let turns = c.turn_all-store.ensures.turns in
-    let shown = c.show_next.ensures.shows in
+    let shown = c.show_next.ensures in
     let disks = disks_of g.D.Disk.honest g.D.Disk.images g.D.Disk.moment g.D.Disk.left_since c.args.disk.now c.turn_all-store.new.disk in
     makes site kept c.turn_all-store.result c.args.self.now c.turn_all-store.new.self c.show_next.new.self turns
     (record {
@@ -36,6 +36,7 @@ returns-clause-makes g c site kept p h short =
       failed = ap (λ (run : Run). run.store_failures) shown.rest ∙ c.with_failure-self.ensures;
       before = shown.before;
       alike = shown.alike;
+      starts = ap (λ (run : Run). run.starts) shown.rest;
     })
     (λ before stands run marked room last.
     shown.shows site kept before stands run marked (ap (λ (r : Run). length r.next.items) turns.rest ∙ room)
@@ -51,5 +52,7 @@ returns-clause-makes g c site kept p h short =
     c.turn_all-store.ensures.leaves c.turn_all-store.ensures.disk.digest c.turn_all-store.ensures.disk.early turns.tried))
     p h c.requires.may.open_is short
 
-pub returns-clause-room : goal.returns-clause-room
-returns-clause-room g c = c.show_next.ensures.shows.room
+pub returns-clause-faces : goal.returns-clause-faces
+returns-clause-faces g c =
+    let may = has_faces_turned c.args.self.now c.turn_all-store.new.self c.turn_all-store.result c.requires.may c.turn_all-store.ensures.turns in
+    has_faces_next _ c.show_next.new.self (record { shows = may.shows; room = may.room; alike = may.alike; passed = may.passed }) c.show_next.ensures

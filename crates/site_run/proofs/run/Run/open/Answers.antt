@@ -1,12 +1,10 @@
-use Rattle.std.proofs.Common.{◌≡◌, ◌∙◌, List, [], false, true, length, ap, refl}
+use Rattle.std.proofs.Common.{◌∙◌, List, [], length, ap, refl}
+use Rattle.site_run.proofs.AlikeFaces.{none_alike}
 use Rattle.std.proofs.lemmas.List.FromFn.{length-map-range_with_len}
 use Rattle.face_text.specs.declared.face.Face.{Face}
 use Rattle.face_text.specs.Faces.{empty_face}
 use Rattle.site_run.proofs.Stood.{opened}
 use Rattle.site_run.proofs.run.Run.open.Goals as goal
-
-unlike : false ≡ true → ⊥
-unlike alike = cc
 
 pub show-requires : goal.show-requires
 show-requires c =
@@ -26,4 +24,4 @@ returns-clause-stands c =
     c.canonical-canonical.ensures.seats refl refl
     (c.show.ensures.shows c.args.site c.args.journal.kept [] stands tt (ap (λ (fs : List Face). length fs) c.in-Ok-empty_faces_of.ensures ∙ long))
     (ap (λ (fs : List Face). length fs) c.in-Ok-empty_faces_of-2.ensures ∙ long)
-    (λ alike. absurd (unlike alike))
+    (none_alike _ _) c.of-starts.ensures

@@ -1,17 +1,29 @@
-use Rattle.std.proofs.Common.{length, refl, sym, subst}
-use Rattle.site_run.specs.Acting.{NoneMarked}
-use Rattle.site_run.proofs.NextFaces.{still_shown}
+use Rattle.std.proofs.Common.{◌∙◌, List, length, ap, refl, subst, sym}
+use Rattle.std.specs.Global.{Vec}
+use Rattle.face_text.specs.declared.face.Face.{Face}
+use Rattle.site_run.specs.Acting.{ShowAllNow}
+use Rattle.site_run.specs.AlikeFaces.{ShowAlike}
+use Rattle.site_run.proofs.AlikeFaces.{backwards}
 use Rattle.site_run.proofs.run.Run.show_next.Goals as goal
 
-pub returns-then-not-is_any_marked-clause-shows : goal.returns-then-not-is_any_marked-clause-shows
-returns-then-not-is_any_marked-clause-shows c =
-    let run = c.args.self.now in
+pub returns : goal.returns
+returns c =
+    let old = c.args.self.now in
+    let alike = c.show_now.new.alike in
+    let was = ap (λ (faces : Vec Face). faces.items) c.swap.ensures.y_after in
+    let is = ap (λ (faces : Vec Face). faces.items) c.swap.ensures.x_after in
     record {
       rest = refl;
-      before = c.requires.alike c.if-self.true;
+      before = was;
       shows =
-          still_shown run.system run.shown.items run.next.items
-          (subst (λ faces. NoneMarked run.system (length faces)) c.as_slice.ensures.value (c.is_any_marked.ensures c.if-not-is_any_marked.true));
-      room = sym c.requires.room;
-      alike = λ _. c.requires.alike c.if-self.true;
+          subst (ShowAllNow old.system old.shown.items old.next.items) (sym is)
+          (subst (λ faces. ShowAllNow old.system faces old.next.items c.show_now.new.faces.items) c.as_slice.ensures.value c.show_now.ensures.shows);
+      room =
+          ap (λ (faces : List Face). length faces) was ∙ c.requires.room ∙ sym c.show_now.ensures.room
+          ∙ sym (ap (λ (faces : List Face). length faces) is);
+      alike =
+          subst (λ faces. ShowAlike alike faces c.swap.new.x.items) (sym was)
+          (subst (ShowAlike alike old.shown.items) (sym is)
+          (subst (λ faces. ShowAlike alike faces c.show_now.new.faces.items) c.as_slice.ensures.value
+          (backwards alike c.show_now.new.faces.items c.as_slice.result.now c.show_now.ensures.alike)));
     }

@@ -1,3 +1,6 @@
+use Rattle.std.proofs.Common.{◌∙◌, ap, sym}
+use Rattle.tick_units.specs.Orders.{canonical_seats}
+use Rattle.site_types.specs.declared.site.Site.{Site}
 use Rattle.site_run.proofs.Stood.{may_turn}
 use Rattle.site_run.proofs.run.Run.turn_all.Goals as goal
 
@@ -6,3 +9,11 @@ turns-requires-clause-may g c = rw c.in-Some.is at (may_turn c.args.self.now c.r
 
 pub turns-requires-in-None-clause-may : goal.turns-requires-in-None-clause-may
 turns-requires-in-None-clause-may g c = rw c.in-None.is at (may_turn c.args.self.now c.requires.may)
+
+pub turns-requires-clause-canonical : goal.turns-requires-clause-canonical
+turns-requires-clause-canonical g c is = absurd cc
+
+pub turns-requires-in-None-clause-canonical : goal.turns-requires-in-None-clause-canonical
+turns-requires-in-None-clause-canonical g c is =
+    let r = c.requires.may in
+    r.stands.canonical ∙ ap (λ (s : Site). canonical_seats s.panels) (sym r.stands.system.same)

@@ -1,11 +1,25 @@
-use Rattle.std.proofs.Common.{◌∙◌, sym}
+use Rattle.std.proofs.Common.{◌∙◌, List, length, ap, subst, sym}
+use Rattle.face_text.specs.Starts.{ArePassed}
+use Rattle.face_text.specs.declared.face.Face.{Face}
+use Rattle.site_run.specs.AlikeFaces.{ShowAlike}
 use Rattle.panel_edges.specs.Contents.{Grows, GrowsByFront}
 use Rattle.site_run.proofs.Closing.{tells_tick}
 use Rattle.site_run.proofs.Results.{on_ok, on_err}
 use Rattle.site_run.proofs.run.Run.write_tick.Goals as goal
 
-pub write-requires-clause-same : goal.write-requires-clause-same
-write-requires-clause-same g c none = c.as_slice.ensures.value ∙ c.requires.same none ∙ sym c.as_slice-2.ensures.value
+pub write-requires : goal.write-requires
+write-requires g c =
+    let h = c.requires in
+    let run = c.args.self.now in
+    record {
+      room =
+          ap (λ (fs : List Face). length fs) c.as_slice.ensures.value ∙ sym h.room
+          ∙ sym (ap (λ (fs : List Face). length fs) c.as_slice-2.ensures.value);
+      alike =
+          subst (λ fs. ShowAlike run.alike fs c.as_slice-2.result.now) (sym c.as_slice.ensures.value)
+          (subst (ShowAlike run.alike run.next.items) (sym c.as_slice-2.ensures.value) h.alike);
+      passed = subst (λ s. ArePassed s run.starts) (sym (c.site.ensures h.shows.site h.shows.kept h.shows.before h.shows.stands)) h.passed;
+    }
 
 pub returns-clause-ok : goal.returns-clause-ok
 returns-clause-ok g c =

@@ -15,7 +15,7 @@ first x y z line e = ap (λ w. (w ++ y) ++ z) (sym e) ∙ append_assoc line y z
 pub returns-in_err-push-clause-err : goal.returns-in_err-push-clause-err
 returns-in_err-push-clause-err g c =
     let page = c.args.self.now in
-    let faces = faces_text page.site.now page.before.now page.after.now in
+    let faces = faces_text page.faces.site.now page.faces.before.now page.faces.after.now in
     let answers = answers_text page.answers.now in
     let held = c.new-held.result in
     let line = c.as_bytes.ensures.value ∙ c.as_str.ensures.value ∙ c.tick_line.ensures.text in
@@ -25,7 +25,7 @@ returns-in_err-push-clause-err g c =
 pub returns-in_err-push_faces-clause-err : goal.returns-in_err-push_faces-clause-err
 returns-in_err-push_faces-clause-err g c =
     let page = c.args.self.now in
-    let faces = faces_text page.site.now page.before.now page.after.now in
+    let faces = faces_text page.faces.site.now page.faces.before.now page.faces.after.now in
     let answers = answers_text page.answers.now in
     let line = c.as_bytes.ensures.value ∙ c.as_str.ensures.value ∙ c.tick_line.ensures.text in
     let text = c.as_bytes.result.now in
@@ -36,7 +36,7 @@ returns-in_err-push_faces-clause-err g c =
 pub returns-in_err-push_answers-clause-err : goal.returns-in_err-push_answers-clause-err
 returns-in_err-push_answers-clause-err g c =
     let page = c.args.self.now in
-    let faces = faces_text page.site.now page.before.now page.after.now in
+    let faces = faces_text page.faces.site.now page.faces.before.now page.faces.after.now in
     let answers = answers_text page.answers.now in
     let line = c.as_bytes.ensures.value ∙ c.as_str.ensures.value ∙ c.tick_line.ensures.text in
     let text = c.as_bytes.result.now in
@@ -48,7 +48,7 @@ returns-in_err-push_answers-clause-err g c =
 pub returns-clause-ok : goal.returns-clause-ok
 returns-clause-ok g c =
     let page = c.args.self.now in
-    let faces = faces_text page.site.now page.before.now page.after.now in
+    let faces = faces_text page.faces.site.now page.faces.before.now page.faces.after.now in
     let answers = answers_text page.answers.now in
     let line = c.as_bytes.ensures.value ∙ c.as_str.ensures.value ∙ c.tick_line.ensures.text in
     let text = c.as_bytes.result.now in
@@ -61,7 +61,7 @@ returns-clause-ok g c =
 pub returns-clause-err : goal.returns-clause-err
 returns-clause-err g c =
     let page = c.args.self.now in
-    let faces = faces_text page.site.now page.before.now page.after.now in
+    let faces = faces_text page.faces.site.now page.faces.before.now page.faces.after.now in
     let answers = answers_text page.answers.now in
     let line = c.as_bytes.ensures.value ∙ c.as_str.ensures.value ∙ c.tick_line.ensures.text in
     let text = c.as_bytes.result.now in

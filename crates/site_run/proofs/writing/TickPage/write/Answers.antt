@@ -24,7 +24,7 @@ returns-then-is_err-clause-err g c =
 pub returns-clause-err : goal.returns-clause-err
 returns-clause-err g c =
     let page = c.args.self.now in
-    let text = page_text page.site.now page.tick page.before.now page.after.now page.answers.now in
+    let text = page_text page.faces.site.now page.tick page.faces.before.now page.faces.after.now page.answers.now in
     let told = sym c.is_told.ensures ∙ c.if-not-is_told.false in
     let fine = sym c.is_err.ensures.value ∙ c.if-is_err.false in
     let is =
