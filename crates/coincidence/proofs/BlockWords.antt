@@ -22,10 +22,10 @@ use Rattle.coincidence.specs.GoingOn.{AreGoingOnIn}
 use Rattle.coincidence.specs.Parts.{is_at_rest, stays_missing}
 use Rattle.coincidence.specs.Places.{TellsEights}
 use Rattle.coincidence.specs.Resting.{LeavesPoint, TellsChanging}
-use Rattle.coincidence.specs.Steady.{AreLeftIn, AreSilentIn, AreStillIn, HasNumberedPoints, IsQuietBlock, all_of_eight}
+use Rattle.coincidence.specs.Steady.{AreLeftIn, AreSilentIn, AreStillIn, HasNumberedPoints, IsQuietBlock}
 use Rattle.coincidence.proofs.GoingOn.{bits_among}
 use Rattle.coincidence.proofs.PlaceSets.{ones_have}
-use Rattle.coincidence.proofs.Steady.{all_four, none_changing}
+use Rattle.coincidence.proofs.Steady.{all_four, all_of_eight, none_changing}
 use Rattle.coincidence.proofs.Resting.{left_if, left_quiet, point_is, quiet}
 
 -- the place of an answer in a word

@@ -2,7 +2,7 @@
 use Rattle.std.proofs.Common.{◌+◌, Bool, ◌≤◌, true, false, not, ◌&&◌, if◌then◌else◌, ◌≡◌, ℕ, zero, suc, ◌<◌, List, [], ◌∷◌, ◌++◌}
 use Rattle.std.proofs.Common.{map, refl, slice_index, sym, ◌∙◌, ap, subst, arith}
 use Rattle.std.specs.List.{range_with_len}
-use Rattle.tick_units.specs.Lane.{with_put}
+use Rattle.tick_units.specs.Lane.{LaneState, with_put}
 use Rattle.site_types.specs.declared.answer.Answer.{Answer}
 use Rattle.site_types.specs.Bits.{has_bit}
 use Rattle.site_types.specs.declared.heard.Heard.TheVariants.{Alarm, Quiet, Silent}
@@ -13,7 +13,7 @@ use Rattle.answer_lanes.specs.declared.answer_group.AnswerGroup.{AnswerGroup}
 use Rattle.answer_lanes.specs.declared.finding_block.FindingBlock.{FindingBlock}
 use Rattle.answer_lanes.specs.declared.finding_eight.FindingEight.{FindingEight}
 use Rattle.answer_lanes.specs.declared.run.Run.{Run}
-use Rattle.answer_lanes.specs.Blocks.{eight_finding_at, eight_found, eight_of, eight_of_group, none_told}
+use Rattle.answer_lanes.specs.Blocks.{block_answer_at, block_finding_at, eight_finding_at, eight_found, eight_of, eight_of_group, none_told}
 use Rattle.answer_lanes.specs.Points.{answer_at, heard_at, mask_if}
 use Rattle.answer_lanes.specs.Runs.{items_of}
 use Rattle.coincidence.specs.declared.decide.Decide.{Decide}
@@ -21,7 +21,7 @@ use Rattle.coincidence.specs.Changes.{FindsNext, PutsFindings, TakesAnswers}
 use Rattle.coincidence.specs.Resting.{AreStill, LeavesPoint, TellsChanging, plain_of}
 use Rattle.coincidence.specs.Parts.{is_at_rest}
 use Rattle.coincidence.specs.Places.{TellsEight}
-use Rattle.coincidence.specs.Steady.{AreLeftIn, AreSilentIn, AreSteady, IsPlainBlock, IsSteadyBlock, all_of_block, all_of_eight}
+use Rattle.coincidence.specs.Steady.{AreLeftIn, AreSilentIn, IsPlainBlock, all_of_block}
 use Rattle.answer_lanes.proofs.Blocks.{finding_of_group}
 use Rattle.answer_lanes.proofs.MaskBits.{lt_is}
 use Rattle.coincidence.proofs.PlaceSets.{ones_have}
@@ -29,6 +29,20 @@ use Rattle.coincidence.proofs.Resting.{finds_at_rest, still_quiet, takes_one_at_
 use Rattle.coincidence.proofs.FindingIs.{same_finding}
 use Rattle.coincidence.proofs.Turned.{put_both, put_none, puts_both, puts_none, puts_one, takes_both, takes_none}
 use Rattle.site_types.proofs.Masks.{has_bit-zero}
+
+-- all that an eight holds
+abbrev pub all_of_eight : {S : Type 0} → S → Run S
+all_of_eight eight = record { first = eight; taken = 0; count = 8 }
+
+-- some answers leave all that is kept as it is, and these findings are theirs
+pub record AreSteady (decide : Decide) (answers : List Answer) (found : List Finding) : Type 0 where
+  pub taken : TakesAnswers decide answers decide
+  pub put : (lane : LaneState Finding) → PutsFindings decide answers lane (with_put lane found)
+
+-- the answers of a block leave all that is kept as it is, and another block has their findings
+abbrev pub IsSteadyBlock : Decide → AnswerBlock → FindingBlock → Type 0
+IsSteadyBlock decide block found =
+    AreSteady decide (items_of block_answer_at (all_of_block block)) (items_of block_finding_at (all_of_block found))
 
 -- the answers of an eight, and its findings
 abbrev pub answers_in : AnswerGroup → List Answer

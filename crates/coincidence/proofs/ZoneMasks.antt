@@ -27,13 +27,13 @@ use Rattle.coincidence.specs.declared.decide.Decide.{Decide}
 use Rattle.coincidence.specs.Changes.{FindsNext}
 use Rattle.coincidence.specs.GoingOn.{AreGoingOnIn, ConfirmsAgain, TellEach, telling_of}
 use Rattle.coincidence.specs.Stands.{DecidesFor}
-use Rattle.coincidence.specs.Steady.{AreSilentIn, AreStillIn, HasNumberedPoints, IsSteadyBlock}
-use Rattle.coincidence.specs.ZoneMasks.{ArePlainlyTold, HasBlock, IsMaskAt, TellZonesOf, TellsZones, TellsZonesFrom, mask_in, told_plainly}
+use Rattle.coincidence.specs.Steady.{AreSilentIn, AreStillIn, HasNumberedPoints}
+use Rattle.coincidence.specs.ZoneMasks.{ArePlainlyTold, HasBlock, IsMaskAt, TellZonesOf, TellsBlockZones, TellsZonesFrom, mask_in, told_plainly}
 use Rattle.coincidence.proofs.BlockWords.{in_word}
 use Rattle.coincidence.proofs.FindingIs.{finding_by}
 use Rattle.coincidence.proofs.GoingOn.{confirms_marked}
 use Rattle.coincidence.proofs.Resting.{point_is, takes_one_at_rest, tells_none_at_rest}
-use Rattle.coincidence.proofs.Steady.{steady_block, steady_each, steady_one}
+use Rattle.coincidence.proofs.Steady.{IsSteadyBlock, steady_block, steady_each, steady_one}
 
 -- ---- what is found of the answers of a group, and of a block
 
@@ -171,10 +171,10 @@ only_one x y zero is = cc
 only_one x y (suc k) is = cc
 
 -- one block more is told of
-pub one_block_more : (points : List Point) (zones : List Zone) (blocks : List BlockZones) (block : BlockZones) → TellsZones points zones block
+pub one_block_more : (points : List Point) (zones : List Zone) (blocks : List BlockZones) (block : BlockZones) → TellsBlockZones points zones block
     → TellZonesOf points zones blocks → TellZonesOf points zones (blocks ++ block ∷ [])
 one_block_more points zones blocks block tells before number found there =
-    ⊎_elim (λ old. before number found old) (λ last. subst (TellsZones points zones) (only_one block found last.0 last.2) tells)
+    ⊎_elim (λ old. before number found old) (λ last. subst (TellsBlockZones points zones) (only_one block found last.0 last.2) tells)
     (get_either blocks (block ∷ []) number found there)
 
 -- of one point more of an eight it is told in which of two zones it stands

@@ -1,25 +1,16 @@
 -- Answers of whole eights and blocks that change nothing of what is kept, and what is told of them at once.
 use Rattle.std.specs.Prelude.{◌≡◌, ◌+◌, ◌*◌, ◌<◌, ◌≤◌, ℕ, [], ◌∷◌, List, slice_index, true}
-use Rattle.tick_units.specs.Lane.{LaneState, with_put}
-use Rattle.site_types.specs.declared.answer.Answer.{Answer}
 use Rattle.answer_lanes.specs.declared.answer_block.AnswerBlock.{AnswerBlock}
 use Rattle.answer_lanes.specs.declared.answer_group.AnswerGroup.{AnswerGroup}
 use Rattle.answer_lanes.specs.declared.finding_block.FindingBlock.{FindingBlock}
 use Rattle.answer_lanes.specs.declared.finding_eight.FindingEight.{FindingEight}
 use Rattle.answer_lanes.specs.declared.run.Run.{Run}
-use Rattle.answer_lanes.specs.Blocks.{block_answer_at, block_finding_at, eight_finding_at, eight_found, eight_of}
+use Rattle.answer_lanes.specs.Blocks.{eight_finding_at, eight_found, eight_of}
 use Rattle.answer_lanes.specs.Points.{answer_at}
-use Rattle.answer_lanes.specs.Runs.{items_of}
 use Rattle.site_types.specs.Bits.{has_bit}
 use Rattle.coincidence_rules.specs.Counted.{is_silent}
-use Rattle.coincidence_rules.specs.declared.finding.Finding.{Finding}
 use Rattle.coincidence.specs.declared.decide.Decide.{Decide}
-use Rattle.coincidence.specs.Changes.{PutsFindings, TakesAnswers}
 use Rattle.coincidence.specs.Resting.{LeavesPoint, plain_of}
-
--- all that an eight holds
-abbrev pub all_of_eight : {S : Type 0} → S → Run S
-all_of_eight eight = record { first = eight; taken = 0; count = 8 }
 
 -- all that a block holds
 abbrev pub all_of_block : {S : Type 0} → S → Run S
@@ -57,13 +48,3 @@ IsPlainBlock block found = (number : ℕ) → number < 4 → IsPlainEight (eight
 pub record IsQuietBlock (block : AnswerBlock) : Type 0 where
   pub alarms : block.alarms ≡ 0 ∷ 0 ∷ 0 ∷ 0 ∷ []
   pub silents : block.silents ≡ 0 ∷ 0 ∷ 0 ∷ 0 ∷ []
-
--- some answers leave all that is kept as it is, and these findings are theirs
-pub record AreSteady (decide : Decide) (answers : List Answer) (found : List Finding) : Type 0 where
-  pub taken : TakesAnswers decide answers decide
-  pub put : (lane : LaneState Finding) → PutsFindings decide answers lane (with_put lane found)
-
--- the answers of a block leave all that is kept as it is, and another block has their findings
-abbrev pub IsSteadyBlock : Decide → AnswerBlock → FindingBlock → Type 0
-IsSteadyBlock decide block found =
-    AreSteady decide (items_of block_answer_at (all_of_block block)) (items_of block_finding_at (all_of_block found))

@@ -11,13 +11,14 @@ use Rattle.coincidence.specs.declared.block_zones.BlockZones.{BlockZones}
 use Rattle.coincidence.specs.declared.eight_zones.EightZones.{EightZones}
 
 -- zones have numbers that zones may have
-abbrev pub AreNumbered : List Zone → Type 0
-AreNumbered zones = (place : ℕ) (zone : Zone) → slice_get zones place ≡ Some zone → IsNumber zone.number
+abbrev pub HaveZoneNumbers : List Zone → Type 0
+HaveZoneNumbers zones = (place : ℕ) (zone : Zone) → slice_get zones place ≡ Some zone → IsNumber zone.number
 
 -- a mask is that of the zone in which the point at a place stands
 pub record IsMaskAt (points : List Point) (zones : List Zone) (place mask : ℕ) : Type 0 where
   pub fits : mask < 2 ^ 32
-  pub bits : (point : Point) (zone : Zone) → slice_get points place ≡ Some point → slice_get zones point.zone ≡ Some zone
+  pub bits : (point : Point) (zone : Zone)
+      → slice_get points place ≡ Some point → slice_get zones point.zone ≡ Some zone
       → (k : ℕ) → k < 32 → has_bit mask k ≡ (if (k + 1) == zone.number then true else false)
 
 -- of the eight points from a place on the masks are those of their zones
@@ -44,15 +45,15 @@ ArePlainlyTold block =
     ≡ told_plainly ((slice_index_or block.told number none_told).counted)
 
 -- it is told plainly of the zones in which the points of a block stand
-pub record TellsZones (points : List Point) (zones : List Zone) (block : BlockZones) : Type 0 where
+pub record TellsBlockZones (points : List Point) (zones : List Zone) (block : BlockZones) : Type 0 where
   pub plain : ArePlainlyTold block
   pub masks : (number k : ℕ) → number < 4 → k < 8
       → IsMaskAt points zones (slice_index block.firsts number + k) (mask_in block number k)
 
--- so it is of each of some blocks
+-- of each of some blocks it is told plainly of the zones in which its points stand
 abbrev pub TellZonesOf : List Point → List Zone → List BlockZones → Type 0
 TellZonesOf points zones blocks =
-    (number : ℕ) (block : BlockZones) → slice_get blocks number ≡ Some block → TellsZones points zones block
+    (number : ℕ) (block : BlockZones) → slice_get blocks number ≡ Some block → TellsBlockZones points zones block
 
 -- one of some blocks is that with these first places
 pub record HasBlock (blocks : List BlockZones) (firsts : List ℕ) (block : BlockZones) : Type 0 where

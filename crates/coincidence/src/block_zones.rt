@@ -19,12 +19,12 @@ pub struct BlockZones {
 }
 
 impl BlockZones {
-    ghost use Rattle.coincidence.specs.ZoneMasks.{AreNumbered, TellsZones};
+    ghost use Rattle.coincidence.specs.ZoneMasks.{HaveZoneNumbers, TellsBlockZones};
 
     /// The zones of a block by the first places of its eights, if the points of each stand in no more than two.
     pub fn of_block(points: &[Point], zones: &[Zone], firsts: &[u16; 4]) -> Option<BlockZones>
-        requires { AreNumbered zones.now }
-        ensures { IfSome result (λ found. TellsZones points.now zones.now found) }
+        requires { HaveZoneNumbers zones.now }
+        ensures { IfSome result (λ found. TellsBlockZones points.now zones.now found) }
     {
         let first = EightZones::from_place(points, zones, firsts[0])?;
         let second = EightZones::from_place(points, zones, firsts[1])?;

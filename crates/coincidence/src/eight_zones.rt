@@ -1,5 +1,5 @@
 ghost use Rattle.std.specs.Prelude.{◌≡◌, IfSome};
-ghost use Rattle.coincidence.specs.ZoneMasks.{AreNumbered};
+ghost use Rattle.coincidence.specs.ZoneMasks.{HaveZoneNumbers};
 
 use crate::bits::one_bit;
 use site_types::{Point, Zone, with_bit_8};
@@ -18,7 +18,7 @@ impl EightZones {
 
     /// The zones of the eight points from a place on, if all stand in that of the first one or of the last.
     pub fn from_place(points: &[Point], zones: &[Zone], first: u16) -> Option<EightZones>
-        requires { AreNumbered zones.now }
+        requires { HaveZoneNumbers zones.now }
         ensures { IfSome result (λ found. TellsZonesFrom points.now zones.now first found) }
     {
         let own = mask_at(points, zones, first as usize)?;
@@ -41,7 +41,7 @@ ghost use Rattle.coincidence.specs.ZoneMasks.{IsMaskAt};
 
 // The mask of the zone of the point at a place, where there is one.
 fn mask_at(points: &[Point], zones: &[Zone], place: usize) -> Option<u32>
-    requires { AreNumbered zones.now }
+    requires { HaveZoneNumbers zones.now }
     ensures { IfSome result (λ mask. IsMaskAt points.now zones.now place mask) }
 {
     let point = points.get(place)?;

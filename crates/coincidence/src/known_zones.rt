@@ -18,16 +18,17 @@ pub struct KnownZones {
 const NONE_THERE: u8 = 255;
 
 impl KnownZones {
-    ghost use Rattle.coincidence.specs.ZoneMasks.{AreNumbered, HasBlock, TellZonesOf};
+    ghost use Rattle.coincidence.specs.ZoneMasks.{HaveZoneNumbers, HasBlock, TellZonesOf};
 
-    /// Of these blocks, each by the first places of its eights, those whose eights stand in no more than two zones each.
+    /// Of these blocks, each by the first places of its eights, those whose eights stand in no more than two zones
+    /// each.
     pub fn of_blocks(
         alloc: Global,
         points: &[Point],
         zones: &[Zone],
         blocks: &[[u16; 4]],
     ) -> Result<KnownZones, NoMemory>
-        requires { AreNumbered zones.now }
+        requires { HaveZoneNumbers zones.now }
         ensures { IfOk result (λ known. TellZonesOf points.now zones.now known.blocks.items) }
     {
         let mut known = KnownZones {
@@ -42,7 +43,7 @@ impl KnownZones {
 
     // Keeps what is told of one more block, if its eights stand in no more than two zones each.
     fn know(&mut self, points: &[Point], zones: &[Zone], firsts: &[u16; 4]) -> Result<(), NoMemory>
-        requires { AreNumbered zones.now }
+        requires { HaveZoneNumbers zones.now }
         ensures { TellZonesOf points.now zones.now self.old.blocks.items
             → TellZonesOf points.now zones.now self.new.blocks.items }
     {
