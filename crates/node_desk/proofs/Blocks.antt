@@ -1,13 +1,12 @@
 -- The tick of a block of a panel at work by itself, from its beginning to its turns.
-use Rattle.std.proofs.Common.{◌≡◌, ◌∙◌, ◌+◌, ◌-◌, ◌^◌, ◌<◌, ◌≤◌, ℕ, Bool, List, [], ◌∷◌, length, Ok, Some, sym, ap, subst, arith}
+use Rattle.std.proofs.Common.{◌≡◌, ◌∙◌, ◌+◌, ◌^◌, ◌≤◌, ℕ, Bool, List, [], ◌∷◌, length, Some, sym, ap, subst, arith}
 use Rattle.std.proofs.lemmas.List.Sorted.{IsPermutation-refl}
 use Rattle.tick_units.specs.Orders.{IsOrder, canonical_seats}
-use Rattle.site_types.specs.declared.event.Event.{Event}
 use Rattle.site_types.specs.declared.retained.Retained.{Retained}
 use Rattle.site_types.specs.declared.site.Site.{Site}
 use Rattle.retained_journal.specs.declared.journal.Journal.{Journal}
 use Rattle.panel_core.specs.Keeping.{KeepsRun}
-use Rattle.panel_rules.specs.Moments.{TickBlock, Began, IsRun, HaveAllTurned, and_events, moments, tick_of}
+use Rattle.panel_rules.specs.Moments.{TickBlock, Began, IsRun, and_events, moments, tick_of}
 use Rattle.panel_rules.proofs.RecordRuns.{records_are_runs}
 use Rattle.run_text.proofs.TickTimes.{tick_moments}
 use Rattle.record_lines.specs.Lines.{reading_of}
@@ -15,12 +14,12 @@ use Rattle.site_run.specs.Outside.{Disks}
 use Rattle.site_run.specs.Records.{Block, ticked}
 use Rattle.site_run.specs.Stands.{Stores}
 use Rattle.site_run.proofs.Progresses.{closed_moments, events_length}
-use Rattle.desk_runs.specs.Ticks.{block_of, is_next, lines_behind, tick_told}
+use Rattle.desk_runs.specs.Ticks.{block_of, lines_behind, tick_told}
 use Rattle.desk_runs.proofs.Running.{may_begin}
 use Rattle.desk_runs.proofs.Telling.{behind_short, events_few, none_refused}
 use Rattle.desk_ticks.specs.Blocks.{behind_line, named_of}
 use Rattle.node_inputs.specs.OwnBlocks.{own_refusal_behind}
-use Rattle.node_rules.specs.Histories.{NodeMoment, Befell, befallen}
+use Rattle.node_rules.specs.Histories.{NodeMoment, befallen}
 use Rattle.panel_node.specs.Changes.{BeginsTick}
 use Rattle.panel_node.specs.Stands.{MayBegin, NodeStandsFor}
 use Rattle.panel_node.specs.declared.node.Node.{Node}

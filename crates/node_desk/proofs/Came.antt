@@ -1,5 +1,5 @@
 -- What bytes are that came as a block.
-use Rattle.std.proofs.Common.{◌≡◌, ◌≤◌, ◌==◌, ℕ, Bool, true, false, List, [], ◌∷◌, length, Result, Ok, Err, if◌then◌else◌, nat_lt, refl, ap, ◌∙◌, subst}
+use Rattle.std.proofs.Common.{◌≡◌, ◌≤◌, ◌==◌, ℕ, Bool, true, false, List, [], ◌∷◌, length, Result, Ok, Err, if◌then◌else◌, nat_lt, refl, ap, ◌∙◌}
 use Rattle.std.proofs.lemmas.Bool.{ltb-false}
 use Rattle.desk_ticks.specs.Blocks.{most_block_bytes}
 use Rattle.desk_ticks.specs.declared.block_refusal.BlockRefusal.{BlockRefusal}

@@ -10,7 +10,7 @@ use Rattle.node_inputs.specs.OwnBlocks.{names_none, own_refusal_behind, own_stop
 use Rattle.node_inputs.specs.OwnEvents.{is_event_of}
 use Rattle.node_inputs.proofs.OwnLines.{AllOwn, IsOwnRead, own_goes_event, own_stops}
 use Rattle.node_rules.specs.Histories.{NodeMoment, Befell, befallen}
-use Rattle.panel_node.specs.Stands.{MayHappen, NodeStandsFor}
+use Rattle.panel_node.specs.Stands.{NodeStandsFor}
 use Rattle.panel_node.specs.declared.node.Node.{Node}
 use Rattle.panel_rules.specs.Moments.{Moment, TickBlock, Began, Happened, and_events, moments}
 use Rattle.panel_rules.specs.Operations.{requests}

@@ -1,22 +1,19 @@
 -- What was replied to what came.
-use Rattle.std.proofs.Common.{◌≡◌, ◌∙◌, ◌+◌, ◌^◌, ◌≤◌, ℕ, Bool, true, false, List, ◌∷◌, length, Ok, Err, if◌then◌else◌, refl, sym, ap, subst, arith}
+use Rattle.std.proofs.Common.{◌≡◌, ◌∙◌, ◌≤◌, ℕ, Bool, true, false, List, ◌∷◌, length, if◌then◌else◌, refl, sym, ap, subst, arith}
 use Rattle.site_types.specs.declared.retained.Retained.{Retained}
 use Rattle.site_types.specs.declared.site.Site.{Site}
 use Rattle.panel_links.specs.declared.frame.Frame.{Frame}
-use Rattle.panel_frames.specs.declared.frame_refusal.FrameRefusal.{FrameRefusal}
 use Rattle.retained_journal.specs.declared.journal.Journal.{Journal}
 use Rattle.panel_core.specs.Keeping.{KeepsRun}
 use Rattle.panel_rules.specs.Moments.{TickBlock, moments, tick_of}
 use Rattle.run_text.proofs.TickTimes.{tick_moments}
 use Rattle.site_run.specs.Outside.{Disks}
-use Rattle.site_run.specs.Stands.{Stores}
 use Rattle.site_run.proofs.Cuts.{stores_same}
-use Rattle.desk_runs.specs.Ticks.{HasRoomForTick, is_next, tick_expected, tick_told}
-use Rattle.desk_ticks.specs.declared.block_refusal.BlockRefusal.{BlockRefusal}
+use Rattle.desk_runs.specs.Ticks.{is_next, tick_expected, tick_told}
 use Rattle.node_inputs.specs.declared.input.NodeInput.{NodeInput}
-use Rattle.node_inputs.specs.declared.input.NodeInput.TheVariants.{Nothing, Framed, BadFrame, Block, BadBlock, TooLong}
-use Rattle.node_rules.specs.Histories.{NodeMoment, FrameCame, befallen}
-use Rattle.node_answers.specs.Exchanges.{and_tick, answer_to, at_tick_end, history_behind, tick_part, ticks_run}
+use Rattle.node_inputs.specs.declared.input.NodeInput.TheVariants.{Framed, Block}
+use Rattle.node_rules.specs.Histories.{NodeMoment, FrameCame}
+use Rattle.node_answers.specs.Exchanges.{and_tick, answer_to, history_behind, tick_part, ticks_run}
 use Rattle.node_answers.specs.Lines.{other_tick_line}
 use Rattle.panel_node.specs.Changes.{TakesFrame}
 use Rattle.node_desk.specs.Replies.{HasReplied, IsAtHand, reply_bytes}

@@ -1,5 +1,5 @@
 -- The turns of a tick of a panel at work by itself.
-use Rattle.std.proofs.Common.{◌≡◌, ◌∙◌, ◌⊎◌, ◌↔◌, ◌+◌, ◌<◌, ◌≤◌, ℕ, Bool, true, false, List, [], ◌∷◌, length, refl, sym, ap, subst, arith}
+use Rattle.std.proofs.Common.{◌≡◌, ◌∙◌, ◌⊎◌, ◌↔◌, ◌≤◌, ℕ, Bool, false, List, [], ◌∷◌, sym, ap, subst, arith}
 use Rattle.std.proofs.lemmas.List.Sorted.{IsPermutation-refl}
 use Rattle.tick_units.specs.Orders.{canonical_seats}
 use Rattle.tick_units.specs.Ticks.{last_tick}
@@ -16,14 +16,12 @@ use Rattle.retained_journal.specs.declared.journal.Journal.{Journal}
 use Rattle.panel_core.specs.Keeping.{KeepsRun, before_keep, has_failed}
 use Rattle.panel_core.specs.PowerCuts.{OpensToFront, OpensToFrontOr}
 use Rattle.panel_rules.specs.Batches.{batch}
-use Rattle.panel_rules.specs.Moments.{Moment, Began, Happened, TickBlock, HaveAllTurned, IsRun, and_events, and_turns, has_kept, moments, tick_of}
+use Rattle.panel_rules.specs.Moments.{Moment, Began, Happened, TickBlock, HaveAllTurned, IsRun, and_events, and_turns, moments, tick_of}
 use Rattle.panel_rules.specs.Records.{AreOrdered}
 use Rattle.panel_rules.proofs.RecordRuns.{records_are_runs}
-use Rattle.run_text.specs.Failures.{failures}
 use Rattle.site_run.specs.Acting.{failures_with}
 use Rattle.site_run.specs.Outside.{Disks}
 use Rattle.site_run.specs.PowerCuts.{OpensToAcknowledged, and_tick, no_tick}
-use Rattle.site_run.specs.Records.{new_block}
 use Rattle.site_run.specs.Stands.{Stores}
 use Rattle.site_run.proofs.Cuts.{acknowledged, opens_in_tick}
 use Rattle.site_run.proofs.Stood.{block_tick, failures_few}
@@ -35,9 +33,8 @@ use Rattle.panel_node.specs.Seats.{and_seats}
 use Rattle.panel_node.specs.Shown.{ShowsFace}
 use Rattle.panel_node.specs.Stands.{NodeStandsFor, StandsForHistory}
 use Rattle.panel_node.specs.declared.node.Node.{Node}
-use Rattle.node_desk.specs.Running.{HasBegun, MadeTick, MayMakeTurns, node_stored_new, node_stored_old, own_tick}
+use Rattle.node_desk.specs.Running.{HasBegun, MadeTick, own_tick}
 use Rattle.face_text.specs.Starts.{ArePassed}
-use Rattle.node_desk.specs.Runs.{RunsFor}
 use Rattle.node_desk.specs.declared.node_run.NodeRun.{NodeRun}
 use Rattle.node_desk.proofs.Befalling.{and_befell, befallen_events, befallen_tick, ends_tick, seats_befell}
 

@@ -4,8 +4,7 @@ use Rattle.face_text.specs.declared.answers.Answers.{Answers}
 use Rattle.face_text.specs.declared.face.Face.{Face}
 use Rattle.panel_frames.specs.Bytes.{frame_bytes}
 use Rattle.panel_links.specs.declared.frame.Frame.{Frame}
-use Rattle.panel_rules.specs.Moments.{IsRun, moments, tick_of}
-use Rattle.panel_rules.specs.Timeline.{answers_now, failed_now, told}
+use Rattle.panel_rules.specs.Moments.{IsRun, tick_of}
 use Rattle.panel_rules.proofs.RecordRuns.{records_are_runs}
 use Rattle.site_run.specs.Pages.{written_text}
 use Rattle.site_types.specs.declared.retained.Retained.{Retained}

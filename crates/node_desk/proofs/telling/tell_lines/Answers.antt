@@ -1,4 +1,4 @@
-use Rattle.std.proofs.Common.{◌≡◌, ◌∙◌, ◌++◌, refl, sym, subst, arith}
+use Rattle.std.proofs.Common.{◌≡◌, ◌∙◌, refl, sym, subst, arith}
 use Rattle.desk_runs.proofs.Telling.{none_left}
 use Rattle.desk_ticks.specs.Blocks.{first_line, tick_one}
 use Rattle.desk_ticks.proofs.Behind.{some_left}

@@ -1,4 +1,4 @@
-use Rattle.std.proofs.Common.{◌≡◌, ◌∙◌, ◌≤◌, arith, refl, subst, sym}
+use Rattle.std.proofs.Common.{arith, refl, subst, sym}
 use Rattle.desk_doors.specs.Doors.{conn_told}
 use Rattle.desk_requests.specs.Rooms.{read_into}
 use Rattle.node_inputs.specs.Reading.{ReadsInput}

@@ -1,4 +1,4 @@
-use Rattle.std.proofs.Common.{◌∙◌, [], refl, subst, lit≤, ◌≤◌}
+use Rattle.std.proofs.Common.{[], refl, subst, lit≤, ◌≤◌}
 use Rattle.tick_units.specs.Ticks.{last_tick}
 use Rattle.panel_node.specs.Stands.{NodeStandsFor}
 use Rattle.node_desk.proofs.node_run.NodeRun.open.Goals as goal

@@ -1,8 +1,8 @@
-use Rattle.std.proofs.Common.{◌≡◌, ◌≤◌, ◌∙◌, ap, refl, subst, sym}
+use Rattle.std.proofs.Common.{◌∙◌, refl, subst, sym}
 use Rattle.node_desk.specs.Replies.{HasReplied}
 use Rattle.node_desk.specs.declared.reply.Reply.TheVariants as reply
 use Rattle.node_inputs.specs.Inputs.{IsOwnInput}
-use Rattle.node_inputs.specs.declared.input.NodeInput.TheVariants.{Nothing, Framed, BadFrame, Block, BadBlock, TooLong}
+use Rattle.node_inputs.specs.declared.input.NodeInput.TheVariants.{Nothing, BadFrame, BadBlock, TooLong}
 use Rattle.panel_frames.specs.Grammar.{IsFrame}
 use Rattle.site_run.specs.Outside.{disks_of}
 use Rattle.site_types.specs.Valid.{IsPanel, IsValid}

@@ -1,4 +1,4 @@
-use Rattle.std.proofs.Common.{◌≡◌, ◌∙◌, ap, refl, subst, sym}
+use Rattle.std.proofs.Common.{◌∙◌, ap, refl, subst, sym}
 use Rattle.desk_runs.specs.Ticks.{is_next, tick_expected}
 use Rattle.node_desk.specs.Replies.{HasReplied}
 use Rattle.node_desk.specs.declared.reply.Reply.TheVariants.{OtherTick}
