@@ -98,7 +98,7 @@ impl LineReader {
     {
         let mut seats = ArrayVec::new();
         if let Some(used) = self.next_seats(piece, &mut seats) {
-            if let Ok(order) = Order::new(&seats, site.panels) {
+            if let Some(order) = Order::of(seats, site.panels) {
                 self.accept_order();
                 return Fed {
                     used,

@@ -1,5 +1,5 @@
 ghost use Rattle.std.specs.Prelude.{◌≡◌, ◌+◌, ◌*◌, ◌<◌, ◌≤◌, ◌↔◌, [], ◌∷◌, ◌++◌, ℕ, length, IfOk, IfErr, IsOk, OnOk};
-ghost use Rattle.std.specs.Prelude.{MatchResult, Some, None, slice_get, if◌then◌else◌};
+ghost use Rattle.std.specs.Prelude.{MatchResult, Some, None, IfSome, IsSome, slice_get, if◌then◌else◌};
 ghost use Rattle.tick_units.specs.Orders.{IsPanelCount, IsOrder, IsSound, IsStrangeAt, IsRepeatedAt, IsFirstMissing};
 ghost use Rattle.tick_units.specs.Orders.{canonical_seats, panel_seats, order_fault, first_missing};
 ghost use Rattle.tick_units.specs.Orders.{is_among as among};
@@ -53,6 +53,20 @@ impl Order {
             Some(seat) => Err(BadOrder::Missing { seat }),
             None => Ok(Order::of_seats(seats)),
         }
+    }
+
+    /// The order of these seats, if each seat of a site of so many panels is among them once and no other is. It is
+    /// made where they stand. What is wrong with others [`Order::new`] tells.
+    #[inline(always)]
+    pub fn of(seats: ArrayVec<Seat, 65>, panels: u8) -> Option<Order>
+        requires { IsPanelCount panels }
+        ensures same { IfSome result (λ order. order ≡ seats.items) }
+        ensures order { IsSome result ↔ IsOrder panels seats.items }
+    {
+        if seats.len() != seat_count(panels) || check_seats(&seats, panels).is_err() {
+            return None;
+        }
+        Some(Order { seats })
     }
 
     /// The order of a tick for which none is given: the eight tasks of panel 1, those of panel 2, and so on, with
@@ -150,10 +164,17 @@ fn missing_seat(seats: &[Seat], panels: u8) -> Option<Seat>
     ensures { result ≡ first_missing (canonical_seats panels) seats.now }
 {
     // As many sound seats as the site has are all of them.
-    if seats.len() == 8 * panels as usize + 1 {
+    if seats.len() == seat_count(panels) {
         return None;
     }
     sought_seat(seats, panels)
+}
+
+// How many seats a site of so many panels has.
+fn seat_count(panels: u8) -> usize
+    ensures { result ≡ 8 * panels + 1 }
+{
+    8 * panels as usize + 1
 }
 
 // The first seat of the canonical order that isn't among these. Room for that order is made here alone.
