@@ -1,5 +1,5 @@
 -- The runs at the front of a lane that are moved whole.
-use Rattle.std.proofs.Common.{◌≡◌, ℕ, ◌+◌, ◌-◌, ◌<◌, ◌≤◌, List, All, length, take, get_or, sym, subst, ◌∙◌, ap, arith, length-append}
+use Rattle.std.proofs.Common.{◌≡◌, ℕ, ◌+◌, ◌-◌, ◌<◌, ◌≤◌, List, All, length, take, get_or, refl, sym, subst, ◌∙◌, ap, arith, length-append}
 use Rattle.std.proofs.lemmas.List.Elements.{All-take}
 use Rattle.answer_lanes.specs.declared.run.Run.{Run}
 use Rattle.answer_lanes.specs.Runs.{HoldsItems, all_items, items_of}
@@ -27,3 +27,12 @@ module _ {S T : Type 0} (item_at : S → ℕ → T) (most : ℕ) where
       let few = whole.few in
       let hold = whole.hold in
       omega (arith, most_runs, few, hold)
+
+  -- the first run by itself, where it holds as many as may be moved
+  pub first_whole : (runs : List (Run S)) (run : Run S) → 1 ≤ length runs → run ≡ get_or runs 0 run → run.count ≡ most
+      → AreWhole item_at most runs 1 most
+  first_whole runs run some is full =
+      let none : AreWhole item_at most runs 0 0 = record { within = omega arith; hold = refl; few = omega arith } in
+      let one = one_whole_more runs 0 0 0 run (omega (arith, some)) is refl none (omega (arith, full)) in
+      let hold = one.hold in
+      record { within = one.within; hold = omega (arith, hold, full); few = omega arith }

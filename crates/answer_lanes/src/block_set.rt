@@ -129,19 +129,36 @@ impl BlockSet {
     pub fn eights_from(&self, firsts: &[u16; 4]) -> u32
         ensures { AreEights self.now firsts.now result }
     {
-        match self.known(firsts) {
+        self.eights_at(self.number_of(firsts), firsts)
+    }
+
+    /// A guess at the number of the block with these first places, for [`BlockSet::eights_at`]: sets that keep the
+    /// words of the same blocks number them alike, so that it is looked for once for all of them.
+    #[inline(always)]
+    pub fn number_of(&self, firsts: &[u16; 4]) -> usize {
+        match self.numbers.get(firsts[0] as usize) {
+            Some(number) => *number as usize,
+            None => IN_NONE as usize,
+        }
+    }
+
+    /// What [`BlockSet::eights_from`] answers, at once where the number is that of these eights' block.
+    #[inline(always)]
+    pub fn eights_at(&self, number: usize, firsts: &[u16; 4]) -> u32
+        ensures { AreEights self.now firsts.now result }
+    {
+        match self.known(number, firsts) {
             Some(word) => word,
             None => self.gathered(firsts),
         }
     }
 
-    // The word of these eights, if they are a known block.
+    // The word of these eights, if they are the known block with this number.
     #[inline(always)]
-    fn known(&self, firsts: &[u16; 4]) -> Option<u32>
+    fn known(&self, number: usize, firsts: &[u16; 4]) -> Option<u32>
         ensures { IfSome result (λ word. AreEights self.now firsts.now word) }
     {
-        let number = self.numbers.get(firsts[0] as usize)?;
-        let block = self.blocks.get(*number as usize)?;
+        let block = self.blocks.get(number)?;
         if block.firsts == *firsts {
             Some(block.word)
         } else {

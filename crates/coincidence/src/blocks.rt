@@ -61,7 +61,8 @@ impl Decide {
         if !has_numbers(block) {
             return false;
         }
-        if is_quiet(block) && self.all_rest(block) {
+        let number = self.going_on.number_of(&block.firsts);
+        if is_quiet(block) && self.all_rest(number, block) {
             findings.put_run(Run {
                 first: quiet_block(block),
                 taken: 0,
@@ -69,24 +70,29 @@ impl Decide {
             });
             return true;
         }
-        self.passes_heard(block, findings)
+        self.passes_heard(number, block, findings)
     }
 
     // Whether the quiet answers of a block are all of points at rest.
     #[inline(always)]
-    fn all_rest(&self, block: &AnswerBlock) -> bool
+    fn all_rest(&self, number: usize, block: &AnswerBlock) -> bool
         requires numbers { HasNumberedPoints block.now }
         requires quiet { IsQuietBlock block.now }
         ensures { result ≡ true → AreLeftIn self.now block.now }
     {
-        self.points.resting_in(&block.firsts) == u32::MAX
+        self.points.resting_in(number, &block.firsts) == u32::MAX
     }
 
     // Puts the findings of a whole block, plain or with alarms that go on, whose answers change nothing of what is
     // kept, in one step. Tells whether it is such a block, and leaves any other one as it is. It stands apart from the
     // way of blocks that are all quiet and at rest, so that it need not share registers with it.
     #[inline(never)]
-    fn passes_heard(&self, block: &AnswerBlock, findings: &mut Lane<FindingBlock>) -> bool
+    fn passes_heard(
+        &self,
+        number: usize,
+        block: &AnswerBlock,
+        findings: &mut Lane<FindingBlock>,
+    ) -> bool
         requires numbers { HasNumberedPoints block.now }
         requires can { CanTakeRunOf block_answer_at self.now (all_of_block block.now) findings.old }
         ensures passed { result ≡ true
@@ -94,7 +100,7 @@ impl Decide {
             findings.new }
         ensures other { result ≡ false → findings.new ≡ findings.old }
     {
-        let changing = !self.still_in(block);
+        let changing = !self.still_in(number, block);
         if changing == 0 {
             findings.put_run(Run {
                 first: plain_block(block),
@@ -103,10 +109,10 @@ impl Decide {
             });
             return true;
         }
-        if !self.all_go_on_in(block, changing) {
+        if !self.all_go_on_in(number, block, changing) {
             return false;
         }
-        let Some(zones) = self.told.of_firsts(&block.firsts) else {
+        let Some(zones) = self.told.at(number, &block.firsts) else {
             return false;
         };
         findings.put_run(Run {
@@ -120,31 +126,31 @@ impl Decide {
     // Which of the answers of a block leave what is kept of their points as it is, a bit for each. Where none is silent
     // it need not be read which points stay missing.
     #[inline(always)]
-    fn still_in(&self, block: &AnswerBlock) -> u32
+    fn still_in(&self, number: usize, block: &AnswerBlock) -> u32
         requires { HasNumberedPoints block.now }
         ensures { AreStillIn self.now block.now result }
     {
         let alarms = joined(&block.alarms);
         let silents = joined(&block.silents);
-        let resting = self.points.resting_in(&block.firsts);
+        let resting = self.points.resting_in(number, &block.firsts);
         if silents == 0 {
             return resting & !alarms;
         }
-        let missing = self.points.missing_in(&block.firsts);
+        let missing = self.points.missing_in(number, &block.firsts);
         (resting & !silents | missing & silents) & !alarms
     }
 
     // Whether those answers of a block of which the bits of a word tell, eight for each eight, are all alarms that go
     // on.
     #[inline(always)]
-    fn all_go_on_in(&self, block: &AnswerBlock, word: u32) -> bool
+    fn all_go_on_in(&self, number: usize, block: &AnswerBlock, word: u32) -> bool
         requires { HasNumberedPoints block.now }
         ensures { result ≡ true → AreGoingOnIn self.now block.now word }
     {
         if block.stamp.0 < self.since.0 {
             return false;
         }
-        let marked = self.going_on.eights_from(&block.firsts) & joined(&block.alarms);
+        let marked = self.going_on.eights_at(number, &block.firsts) & joined(&block.alarms);
         word & !marked == 0
     }
 

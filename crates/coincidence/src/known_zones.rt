@@ -56,9 +56,22 @@ impl KnownZones {
         Ok(())
     }
 
-    /// What is told of a block, by the first places of its eights, if it is known.
+    /// What is told of a block, by the first places of its eights, if it is known: at once where `number`, a guess, is
+    /// that of the block.
     #[inline(always)]
-    pub fn of_firsts(&self, firsts: &[u16; 4]) -> Option<&BlockZones>
+    pub fn at(&self, number: usize, firsts: &[u16; 4]) -> Option<&BlockZones>
+        ensures { IfSome result (λ block. HasBlock self.now.blocks.items firsts.now block.now) }
+    {
+        match self.blocks.get(number) {
+            Some(block) if block.firsts == *firsts => Some(block),
+            _ => self.of_firsts(firsts),
+        }
+    }
+
+    // What is told of a block, by the first places of its eights, if it is known. It stands apart, so that blocks whose
+    // number was guessed need not share registers with it.
+    #[inline(never)]
+    fn of_firsts(&self, firsts: &[u16; 4]) -> Option<&BlockZones>
         ensures { IfSome result (λ block. HasBlock self.now.blocks.items firsts.now block.now) }
     {
         let number = self.numbers.get(firsts[0] as usize)?;

@@ -133,19 +133,21 @@ impl PointWatches {
     }
 
     /// Which of the eight points from each of four places on are at rest, in one word, those of the first one lowest.
+    /// `number` is a guess at that of their block.
     #[inline(always)]
-    pub fn resting_in(&self, firsts: &[u16; 4]) -> u32
+    pub fn resting_in(&self, number: usize, firsts: &[u16; 4]) -> u32
         ensures { TellsEights is_at_rest self.now firsts.now result }
     {
-        self.resting.eights_from(firsts)
+        self.resting.eights_at(number, firsts)
     }
 
     /// Which of the eight points from each of four places on stay missing, in one word, those of the first one lowest.
+    /// `number` is a guess at that of their block.
     #[inline(always)]
-    pub fn missing_in(&self, firsts: &[u16; 4]) -> u32
+    pub fn missing_in(&self, number: usize, firsts: &[u16; 4]) -> u32
         ensures { TellsEights stays_missing self.now firsts.now result }
     {
-        self.missing.eights_from(firsts)
+        self.missing.eights_at(number, firsts)
     }
 }
 

@@ -8,9 +8,9 @@ pub returns-then-eq : goal.returns-then-eq
 returns-then-eq c =
     let look = c.in_ok-block.ensures.lookup in
     let block = c.in_ok-block.block.now in
-    let number = c.in_ok-number.number.now in
-    let there = slice_get_read c.deref-2.result.now _ number block refl look.3.0 look.1 in
-    let word = c.self.invariant.0 number block (ap (λ xs. slice_get xs number) (sym c.deref-2.ensures.value) ∙ there) in
+    let number = c.args.number in
+    let there = slice_get_read c.deref.result.now _ number block refl look.3.0 look.1 in
+    let word = c.self.invariant.0 number block (ap (λ xs. slice_get xs number) (sym c.deref.ensures.value) ∙ there) in
     let firsts = same_text block.firsts c.args.firsts.now (sym c.if-eq.true ∙ c.eq.ensures) in
     subst (λ set. AreEights set c.args.firsts.now block.word) c.self.view_is
     (subst (λ xs. AreEights c.self.inside.places xs block.word) firsts word)

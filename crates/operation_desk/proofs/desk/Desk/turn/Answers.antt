@@ -1,13 +1,6 @@
-use Rattle.std.proofs.Common.{◌≡◌, ◌-◌, length, ap, arith}
-use Rattle.std.specs.Prelude.{slice_set}
-use Rattle.operation_desk.proofs.Turned.{busy_put, desk_passed, desk_turned}
+use Rattle.std.proofs.Common.{◌≡◌, length, arith}
+use Rattle.operation_desk.proofs.Turned.{desk_passed}
 use Rattle.operation_desk.proofs.desk.Desk.turn.Goals as goal
-
-pub returns : goal.returns
-returns c kept before h m =
-    desk_turned c.args.site.now kept c.args.settings.now c.args.panel before c.args.self.now h m c.take_own.new.self _
-    (c.take_own.ensures.took kept before h m) c.take_own.ensures.rest
-    (busy_put c.take_own.new.self _ _ (ap (slice_set c.take_own.new.self.answers.busy (c.args.panel - 1)) c.saturating_sub.ensures))
 
 pub returns-then-is_empty : goal.returns-then-is_empty
 returns-then-is_empty c kept before h m =

@@ -1,6 +1,6 @@
 use Rattle.std.proofs.Common.{◌≡◌}
 use Rattle.answer_lanes.specs.Moves.{AreWhole}
-use Rattle.answer_lanes.proofs.whole.whole_runs.Given as goal
+use Rattle.answer_lanes.proofs.whole.counted_runs.Given as goal
 
 -- the runs before this one go whole
 abbrev pub invariant-loop-run : goal.invariant-loop-run
