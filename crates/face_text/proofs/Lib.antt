@@ -4,6 +4,7 @@ pub mod Holding
 pub mod Pages
 pub mod Listing
 pub mod NextNames
+pub mod Begun
 pub mod ListItems
 pub mod Busy
 -- what two masks tell, and faces that show the same

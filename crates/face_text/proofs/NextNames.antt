@@ -12,7 +12,9 @@ use Rattle.site_types.specs.declared.zone.Zone.{Zone}
 use Rattle.std.specs.List.{find, list_any, position, position_or_len}
 use Rattle.std.proofs.lemmas.Bool.{and_from, and_parts, eqb-true, cases_lt, le-leb, ltb-false}
 use Rattle.std.proofs.lemmas.Bool.Decides.{Decides-eqb, eqb_tells}
-use Rattle.std.proofs.lemmas.List.{drop-drop, drop_all}
+use Rattle.std.proofs.lemmas.List.{drop-drop, drop_all, get_or-take, length-take}
+use Rattle.std.proofs.lemmas.List.Folds.{list_any_none}
+use Rattle.std.proofs.lemmas.List.Sums.{fails_before_first}
 use Rattle.std.proofs.lemmas.List.Quantifiers.{position-Some}
 use Rattle.std.proofs.lemmas.Option.{same_Some, slice_get-get_or}
 
@@ -180,24 +182,24 @@ found_after of_panel test (x ∷ xs) (suc count) within none = go (of_panel x) (
     go false true e f h later = absurd (let g : true ≡ false = sym (within x f) ∙ e in cc)
     go false false e f h later = later h
 
--- the first things, and some behind them
-pub any_more : {X : Type 0} (test : X → Bool) (xs : List X) (count more : ℕ) → list_any test (take count xs) ≡ false
-    → list_any test (take more (drop count xs)) ≡ false → list_any test (take (count + more) xs) ≡ false
-any_more test [] count more first second = none_of_none (count + more)
-  where
-    none_of_none : (n : ℕ) → list_any test (take n []) ≡ false
-    none_of_none zero = refl
-    none_of_none (suc n) = refl
-any_more test (x ∷ xs) zero more first second = let same : 0 + more ≡ more = omega arith in ap (λ n. list_any test (take n (x ∷ xs))) same ∙ second
-any_more test (x ∷ xs) (suc count) more first second =
-    let next : suc count + more ≡ suc (count + more) = omega arith in
-    ap (λ n. list_any test (take n (x ∷ xs))) next ∙ go (test x) first (λ none. any_more test xs count more none second)
-  where
-    go : (b : Bool) → (b || list_any test (take count xs)) ≡ false
-        → (list_any test (take count xs) ≡ false → list_any test (take (count + more) xs) ≡ false)
-        → (b || list_any test (take (count + more) xs)) ≡ false
-    go true h later = cc
-    go false h later = later h
+-- before the first place at which a test holds it holds nowhere, and nowhere at all where there is none
+pub none_before : {X : Type 0} (test : X → Bool) (xs : List X) (place : ℕ) → position test xs ≡ Some place
+    → list_any test (take place xs) ≡ false
+none_before test xs place is =
+    list_any_none test (take place xs)
+    (λ k d within.
+    let count = length-take place xs in
+    let before : k < place = omega (arith, within, count) in
+    ap test (get_or-take place xs k d before) ∙ (position-Some test xs place d is).2 k before)
+
+pub none_there : {X : Type 0} (test : X → Bool) (xs : List X) → position test xs ≡ None → list_any test (take (length xs) xs) ≡ false
+none_there test xs is =
+    let past : length xs ≤ position_or_len test xs = ltb-false _ _ (passes_none _ _ is) in
+    list_any_none test (take (length xs) xs)
+    (λ k d within.
+    let count = length-take (length xs) xs in
+    let before : k < length xs = omega (arith, within, count) in
+    ap test (get_or-take (length xs) xs k d before) ∙ fails_before_first test xs k d (omega (arith, before, past)))
 
 -- ---- behind things of other panels
 
@@ -215,14 +217,17 @@ outputs_found site count panel n none =
     (found_after (λ (output : Output). output.panel == panel) (λ (output : Output). (output.panel == panel) && (output.number == n)) site.outputs count
     (λ output h. (and_parts (output.panel == panel) (output.number == n) h).0) none)
 
-points_found : (site : Site) (count panel line n : ℕ) → list_any (λ (point : Point). point.panel == panel) (take count site.points) ≡ false
+-- the point is on a loop of a panel
+abbrev pub is_on : ℕ → ℕ → Point → Bool
+is_on panel line point = (point.panel == panel) && (point.line == line)
+
+points_found : (site : Site) (count panel line n : ℕ) → list_any (is_on panel line) (take count site.points) ≡ false
     → point_name (without_first count site) panel line n ≡ point_name site panel line n
 points_found site count panel line n none =
     ap (option_map (λ (point : Point). point.name.bytes))
-    (found_after (λ (point : Point). point.panel == panel)
+    (found_after (is_on panel line)
     (λ (point : Point). (point.panel == panel) && (point.line == line) && (point.address == n)) site.points count
-    (λ point h. (and_parts (point.panel == panel) (point.line == line)
-    (and_parts ((point.panel == panel) && (point.line == line)) (point.address == n) h).0).0) none)
+    (λ point h. (and_parts ((point.panel == panel) && (point.line == line)) (point.address == n) h).0) none)
 
 module _ (count : ℕ) (site : Site) (panel : ℕ) (group : Group) where
   pub behind_other_zones : (other : ℕ) (zones : List Zone) → (group ≡ Zones other) ⊎ (group ≡ Firsts other) → zones ≡ site.zones
@@ -239,12 +244,12 @@ module _ (count : ℕ) (site : Site) (panel : ℕ) (group : Group) where
   behind_zones zones (inr is) same none n low =
       rw is (zones_found site count panel n (ap (λ xs. list_any (λ (zone : Zone). zone.panel == panel) (take count xs)) (sym same) ∙ none))
 
-  pub behind_points : (points : List Point) → ((line : ℕ) × (group ≡ Missing line)) ⊎ ((line : ℕ) × (group ≡ PointsOff line)) → points ≡ site.points
-      → list_any (λ (point : Point). point.panel == panel) (take count points) ≡ false → AreNamedBehind count site panel group 1
-  behind_points points (inl is) same none n low =
-      rw (is.1) (points_found site count panel is.0 n (ap (λ xs. list_any (λ (point : Point). point.panel == panel) (take count xs)) (sym same) ∙ none))
-  behind_points points (inr is) same none n low =
-      rw (is.1) (points_found site count panel is.0 n (ap (λ xs. list_any (λ (point : Point). point.panel == panel) (take count xs)) (sym same) ∙ none))
+  pub behind_points : (line : ℕ) (points : List Point) → (group ≡ Missing line) ⊎ (group ≡ PointsOff line) → points ≡ site.points
+      → list_any (is_on panel line) (take count points) ≡ false → AreNamedBehind count site panel group 1
+  behind_points line points (inl is) same none n low =
+      rw is (points_found site count panel line n (ap (λ xs. list_any (is_on panel line) (take count xs)) (sym same) ∙ none))
+  behind_points line points (inr is) same none n low =
+      rw is (points_found site count panel line n (ap (λ xs. list_any (is_on panel line) (take count xs)) (sym same) ∙ none))
 
   pub behind_outputs : (outputs : List Output)
       → (group ≡ Unconfirmed) ⊎ ((group ≡ Outputs) ⊎ ((group ≡ Confirmed) ⊎ (group ≡ OutputsOff))) → outputs ≡ site.outputs

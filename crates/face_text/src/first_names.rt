@@ -1,68 +1,63 @@
-//! How many things of a list of the site stand before all those of a panel, as far as that is seen quickly.
+//! How many things of a list of the site stand before all those of a panel or of one of its loops.
 
-ghost use Rattle.std.specs.Prelude.{◌≡◌, ◌≤◌, ◌+◌, ◌==◌, ℕ, true, false, drop, length, take};
-ghost use Rattle.std.specs.List.{list_any};
+ghost use Rattle.std.specs.Prelude.{◌≡◌, ◌==◌, ◌&&◌, false, take};
+ghost use Rattle.std.specs.List.{list_any, position};
+ghost use Rattle.site_types.specs.declared.output.Output.{Output as OutputPlan};
+ghost use Rattle.site_types.specs.declared.point.Point.{Point as PointPlan};
+ghost use Rattle.site_types.specs.declared.zone.Zone.{Zone as ZonePlan};
 
 use site_types::{Output, Point, Zone};
 
-// A thing of a panel.
-pub(crate) trait OfPanel {
-    ghost panel_of: { Self → ℕ };
-
-    fn panel(&self) -> u8
-        ensures { result ≡ panel_of self.now };
-}
-
-impl OfPanel for Zone {
-    ghost panel_of = { λ zone. zone.panel };
-
-    fn panel(&self) -> u8 {
-        self.panel
-    }
-}
-
-impl OfPanel for Point {
-    ghost panel_of = { λ point. point.panel };
-
-    fn panel(&self) -> u8 {
-        self.panel
-    }
-}
-
-impl OfPanel for Output {
-    ghost panel_of = { λ output. output.panel };
-
-    fn panel(&self) -> u8 {
-        self.panel
-    }
-}
-
-/// How many things stand before the first eight among which there is one of a panel.
-pub(crate) fn others<T: OfPanel>(things: &[T], panel: u8) -> usize
-    ensures { list_any (λ thing. T.panel_of thing == panel) (take result things.now) ≡ false }
+/// How many zones stand before the first one of a panel, or all where it has none.
+pub(crate) fn zones_before(zones: &[Zone], panel: u8) -> usize
+    ensures { list_any (λ (zone : ZonePlan). zone.panel == panel)
+        (take result zones.now) ≡ false }
 {
-    let mut passed = 0;
-    while are_others(things, passed, panel) {
-        passed += 8;
+    match first_zone(zones, panel) {
+        Some(place) => place,
+        None => zones.len(),
     }
-    passed
 }
 
-// Whether eight things stand behind those that are passed, none of them of a panel.
-fn are_others<T: OfPanel>(things: &[T], passed: usize, panel: u8) -> bool
-    requires { passed ≤ length things.now }
-    ensures room { result ≡ true → passed + 8 ≤ length things.now }
-    ensures none { result ≡ true
-        → list_any (λ thing. T.panel_of thing == panel) (take 8 (drop passed things.now)) ≡ false }
+fn first_zone(zones: &[Zone], panel: u8) -> Option<usize>
+    ensures { result ≡ position (λ zone. zone.panel == panel) zones.now }
 {
-    if things.len() - passed < 8 {
-        return false;
-    }
-    !has_one(&things[passed..passed + 8], panel)
+    zones.iter().position(|zone| zone.panel == panel)
 }
 
-fn has_one<T: OfPanel>(things: &[T], panel: u8) -> bool
-    ensures { result ≡ list_any (λ thing. T.panel_of thing == panel) things.now }
+/// How many points stand before the first one of a panel's loop, or all where it has none.
+pub(crate) fn points_before(points: &[Point], panel: u8, line: u8) -> usize
+    ensures { list_any (λ (point : PointPlan). (point.panel == panel) && (point.line == line))
+        (take result points.now) ≡ false }
 {
-    things.iter().any(|thing| thing.panel() == panel)
+    match first_point(points, panel, line) {
+        Some(place) => place,
+        None => points.len(),
+    }
+}
+
+fn first_point(points: &[Point], panel: u8, line: u8) -> Option<usize>
+    ensures { result ≡ position (λ point. (point.panel == panel) && (point.line == line))
+        points.now }
+{
+    points
+        .iter()
+        .position(|point| point.panel == panel && point.line == line)
+}
+
+/// How many outputs stand before the first one of a panel, or all where it has none.
+pub(crate) fn outputs_before(outputs: &[Output], panel: u8) -> usize
+    ensures { list_any (λ (output : OutputPlan). output.panel == panel)
+        (take result outputs.now) ≡ false }
+{
+    match first_output(outputs, panel) {
+        Some(place) => place,
+        None => outputs.len(),
+    }
+}
+
+fn first_output(outputs: &[Output], panel: u8) -> Option<usize>
+    ensures { result ≡ position (λ output. output.panel == panel) outputs.now }
+{
+    outputs.iter().position(|output| output.panel == panel)
 }

@@ -6,16 +6,17 @@ ghost use Rattle.face_text.specs.NextNames.{AreNamedBehind};
 ghost use Rattle.face_text.specs.Starts.{ArePassed};
 ghost use Rattle.site_types.specs.declared.site.Site.{Site as SiteOf};
 
-use crate::first_names::others;
+use crate::first_names::{outputs_before, points_before, zones_before};
 use crate::group::Group;
-use site_types::Site;
+use site_types::{Point, Site};
 
-/// How many things of each list of a site stand before all those of a panel, as far as that is seen quickly. Panel 1
-/// stands first. It is found once for a site, so that the names of what changed are looked for from there on.
+/// How many things of each list of a site stand before all those of a panel, and of its points before all those of a
+/// loop. Panel 1 and loop 1 stand first. It is found once for a site, so that the names of what changed are looked for
+/// from there on.
 #[derive(Clone, Copy, Debug)]
 pub struct Starts {
     zones: [usize; 8],
-    points: [usize; 8],
+    points: [[usize; 4]; 8],
     outputs: [usize; 8],
 }
 
@@ -26,12 +27,12 @@ impl Starts {
     {
         Starts {
             zones: [0; 8],
-            points: [0; 8],
+            points: [[0; 4]; 8],
             outputs: [0; 8],
         }
     }
 
-    /// Of a site. Each list is looked at once for each panel, up to the panel's first thing.
+    /// Of a site. Each list is looked at once for each panel, the points once for each loop, up to the first one.
     pub fn of(site: &Site) -> Starts
         ensures { ArePassed site.now result }
     {
@@ -39,9 +40,9 @@ impl Starts {
         for before in 0..8 {
             let place = before as usize;
             let panel = before + 1;
-            starts.zones[place] = others(site.zones.as_slice(), panel);
-            starts.points[place] = others(site.points.as_slice(), panel);
-            starts.outputs[place] = others(site.outputs.as_slice(), panel);
+            starts.zones[place] = zones_before(site.zones.as_slice(), panel);
+            starts.points[place] = before_loops(site.points.as_slice(), panel);
+            starts.outputs[place] = outputs_before(site.outputs.as_slice(), panel);
         }
         starts
     }
@@ -53,7 +54,7 @@ impl Starts {
     {
         match group {
             Group::Zones(other) | Group::Firsts(other) => start_of(&self.zones, other),
-            Group::Missing(_) | Group::PointsOff(_) => start_of(&self.points, panel),
+            Group::Missing(line) | Group::PointsOff(line) => start_on(&self.points, panel, line),
             Group::Unconfirmed | Group::Outputs | Group::Confirmed | Group::OutputsOff => {
                 start_of(&self.outputs, panel)
             }
@@ -63,14 +64,40 @@ impl Starts {
     }
 }
 
-ghost use Rattle.face_text.specs.Starts.{start_in};
+ghost use Rattle.std.specs.Prelude.{◌&&◌};
+ghost use Rattle.face_text.specs.Starts.{start_in, start_on as on_loop};
+ghost use Rattle.site_types.specs.declared.point.Point.{Point as PointPlan};
 
-// The start of a panel, or of one that no site has.
-fn start_of(starts: &[usize; 8], panel: u8) -> usize
-    ensures { result ≡ start_in starts.now panel }
+// How many points stand before all those of each loop of a panel.
+fn before_loops(points: &[Point], panel: u8) -> [usize; 4]
+    ensures { (line : ℕ) → list_any (λ (point : PointPlan). (point.panel == panel)
+        && (point.line == line)) (take (start_in result line) points.now) ≡ false }
+{
+    [
+        points_before(points, panel, 1),
+        points_before(points, panel, 2),
+        points_before(points, panel, 3),
+        points_before(points, panel, 4),
+    ]
+}
+
+// The start of a loop, or none where no site has the panel or its loop.
+fn start_on(starts: &[[usize; 4]; 8], panel: u8, line: u8) -> usize
+    ensures { result ≡ on_loop starts.now panel line }
 {
     if 1 <= panel && panel <= 8 {
-        starts[panel as usize - 1]
+        start_of(&starts[panel as usize - 1], line)
+    } else {
+        0
+    }
+}
+
+// What stands for a number in a list, the first for 1, or nothing for one that it hasn't.
+fn start_of(starts: &[usize], number: u8) -> usize
+    ensures { result ≡ start_in starts.now number }
+{
+    if 1 <= number && number as usize <= starts.len() {
+        starts[number as usize - 1]
     } else {
         0
     }
