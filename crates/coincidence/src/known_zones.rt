@@ -62,9 +62,9 @@ impl KnownZones {
     pub fn at(&self, number: usize, firsts: &[u16; 4]) -> Option<&BlockZones>
         ensures { IfSome result (λ block. HasBlock self.now.blocks.items firsts.now block.now) }
     {
-        match self.blocks.get(number) {
-            Some(block) if block.firsts == *firsts => Some(block),
-            _ => self.of_firsts(firsts),
+        match self.numbered(number, firsts) {
+            Some(block) => Some(block),
+            None => self.of_firsts(firsts),
         }
     }
 
@@ -75,7 +75,15 @@ impl KnownZones {
         ensures { IfSome result (λ block. HasBlock self.now.blocks.items firsts.now block.now) }
     {
         let number = self.numbers.get(firsts[0] as usize)?;
-        let block = self.blocks.get(*number as usize)?;
+        self.numbered(*number as usize, firsts)
+    }
+
+    // What is told of the block with this number, if its eights have these first places.
+    #[inline(always)]
+    fn numbered(&self, number: usize, firsts: &[u16; 4]) -> Option<&BlockZones>
+        ensures { IfSome result (λ block. HasBlock self.now.blocks.items firsts.now block.now) }
+    {
+        let block = self.blocks.get(number)?;
         if block.firsts == *firsts {
             Some(block)
         } else {
