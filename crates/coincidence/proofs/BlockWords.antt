@@ -32,7 +32,7 @@ use Rattle.coincidence.proofs.Resting.{left_if, left_quiet, point_is, quiet}
 pub in_word : (number k : ℕ) → number < 4 → k < 8 → 8 * number + k < 32
 in_word number k less small = omega (arith, less, small)
 
-not_is : (kept : Bool) → not kept ≡ false → kept ≡ true
+pub not_is : (kept : Bool) → not kept ≡ false → kept ≡ true
 not_is true e = refl
 not_is false e = absurd (cc)
 

@@ -238,10 +238,10 @@ module _ {site : Site} {kept : Retained} {panel : ℕ} {done : List Done} {taken
     since = since;
   }
 
-  stands_marked : DecidesFor site kept panel done (taken ++ answer ∷ []) decide
+  pub stands_marked : DecidesFor site kept panel done (taken ++ answer ∷ []) decide
   stands_marked = stands_again stands answer may at_point.watch.zone on_again
 
-  found_marked : (zones : ℕ) → IsMaskAt site.points site.zones answer.point zones → telling_of zones answer ≡ finding_of site kept panel done taken answer
+  pub found_marked : (zones : ℕ) → IsMaskAt site.points site.zones answer.point zones → telling_of zones answer ≡ finding_of site kept panel done taken answer
   found_marked zones mask =
       let w = at_point in
       let read = sym (get_or_from_slice_get decide.zones.items w.point.zone w.zone_watch w.zone_watch w.is_zone_watch) in

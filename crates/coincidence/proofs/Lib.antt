@@ -23,6 +23,8 @@ pub mod ZoneParts
 pub mod Steady
 pub mod BlockWords
 pub mod ZoneMasks
+pub mod PlainlyFound
+pub mod ChangedBlocks
 -- operations: what is kept after one, by its kind, and that those of other panels change nothing
 pub mod AppliedOperation
 pub mod OperationKinds

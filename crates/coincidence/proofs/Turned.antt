@@ -40,7 +40,7 @@ module _ {site : Site} {panel : ℕ} {done : List Done} {taken : List Answer} (x
   }
 
 -- the findings of two lists
-findings_both : (site : Site) (kept : Retained) (panel : ℕ) (done : List Done) (before xs ys : List Answer)
+pub findings_both : (site : Site) (kept : Retained) (panel : ℕ) (done : List Done) (before xs ys : List Answer)
     → findings_after site kept panel done before (xs ++ ys)
     ≡ findings_after site kept panel done before xs ++ findings_after site kept panel done (before ++ xs) ys
 findings_both site kept panel done before [] ys = ap (λ b. findings_after site kept panel done b ys) (sym (append-nil before))

@@ -37,12 +37,12 @@ use Rattle.coincidence.proofs.Steady.{IsSteadyBlock, steady_block, steady_each, 
 
 -- ---- what is found of the answers of a group, and of a block
 
-alarm_is : (alarm silent : Bool) → alarm ≡ is_alarm (if alarm then Alarm else if silent then Silent else Quiet)
+pub alarm_is : (alarm silent : Bool) → alarm ≡ is_alarm (if alarm then Alarm else if silent then Silent else Quiet)
 alarm_is true silent = refl
 alarm_is false true = refl
 alarm_is false false = refl
 
-no_mask : (told : Bool) → mask_if told 0 ≡ 0
+pub no_mask : (told : Bool) → mask_if told 0 ≡ 0
 no_mask true = refl
 no_mask false = refl
 

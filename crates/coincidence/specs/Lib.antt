@@ -13,3 +13,4 @@ pub mod GoingOn
 pub mod Premises
 pub mod Changes
 pub mod Queries
+pub mod ChangedBlocks

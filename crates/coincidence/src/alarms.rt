@@ -47,7 +47,7 @@ impl Decide {
     }
 
     // What is known of the zone of an answer's point, if each of its alarms that counts confirms it by itself.
-    fn zone_of(&self, answer: &Answer, known: Option<PlainZone>) -> Option<PlainZone>
+    pub(crate) fn zone_of(&self, answer: &Answer, known: Option<PlainZone>) -> Option<PlainZone>
         requires can { CanTake self.now (answer.now ∷ []) }
         requires known { KnowsZone answer.now.stamp.0 self.now known }
         ensures { IfSome result (IsOfPoint answer.now self.now) }
@@ -113,7 +113,7 @@ impl Decide {
 
     // Takes note of such an alarm, of which this is said. Where its run goes on, it may do so from now on.
     #[inline(always)]
-    fn note_in(&mut self, answer: &Answer, judgement: &Judgement, zone: &PlainZone)
+    pub(crate) fn note_in(&mut self, answer: &Answer, judgement: &Judgement, zone: &PlainZone)
         requires can { CanTake self.old (answer.now ∷ []) }
         requires zone { IsOfPoint answer.now self.old zone.now }
         ensures taken { TakesJudged self.old answer.now judgement.now self.new }
@@ -137,7 +137,7 @@ impl Decide {
     }
 
     // What the operations done before such an alarm say of it.
-    fn judge_in(&self, answer: &Answer, point: &PointWatch, zone: &PlainZone) -> Judgement
+    pub(crate) fn judge_in(&self, answer: &Answer, point: &PointWatch, zone: &PlainZone) -> Judgement
         requires may { CanObserve self.now answer.now }
         requires read { point.now ≡ slice_index_or self.now.points answer.now.point point.now }
         requires alarm { is_alarm answer.now.heard ≡ true }

@@ -59,3 +59,18 @@ pub fn lowest_bit_or(byte: u8, otherwise: u8) -> u8
         lowest_bit(byte)
     }
 }
+
+/// The lowest bit of a word that is set from a place on, or 32 where none is.
+#[inline(always)]
+pub fn lowest_from(word: u32, place: u8) -> u8
+    requires { place ≤ 32 }
+    ensures least { place ≤ result }
+    ensures most { result ≤ 32 }
+    ensures none { (k : ℕ) → place ≤ k → k < result → has_bit word k ≡ false }
+{
+    let left = ((word as u64) >> place) as u32;
+    if left == 0 {
+        return 32;
+    }
+    place + left.trailing_zeros() as u8
+}

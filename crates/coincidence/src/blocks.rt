@@ -126,7 +126,7 @@ impl Decide {
     // Which of the answers of a block leave what is kept of their points as it is, a bit for each. Where none is silent
     // it need not be read which points stay missing.
     #[inline(always)]
-    fn still_in(&self, number: usize, block: &AnswerBlock) -> u32
+    pub(crate) fn still_in(&self, number: usize, block: &AnswerBlock) -> u32
         requires { HasNumberedPoints block.now }
         ensures { AreStillIn self.now block.now result }
     {
@@ -197,8 +197,8 @@ fn first_eight(run: &Run<AnswerBlock>) -> Run<AnswerGroup>
 
 ghost use Rattle.coincidence.specs.Steady.{HasNumberedPoints, IsQuietBlock};
 
-// Whether the points of each eight of a block have different numbers.
-fn has_numbers(block: &AnswerBlock) -> bool
+/// Whether the points of each eight of a block have different numbers.
+pub fn has_numbers(block: &AnswerBlock) -> bool
     ensures { result ≡ true → HasNumberedPoints block.now }
 {
     let [first, second, third, fourth] = block.firsts;

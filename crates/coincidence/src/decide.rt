@@ -173,7 +173,7 @@ impl Decide {
     }
 
     // Takes note of an answer that is no alarm: it ends the run of its point, and makes no pair.
-    fn note_quiet(&mut self, answer: &Answer)
+    pub(crate) fn note_quiet(&mut self, answer: &Answer)
         requires { CanTake self.old (answer.now ∷ []) }
         ensures taken { is_alarm answer.now.heard ≡ false
             → TakesAnswers self.old (answer.now ∷ []) self.new }

@@ -25,17 +25,21 @@
 //! alarm's tick; any other answer of it that changes something unmarks it, and an operation unmarks all points.
 //! A whole block of four eights is passed over in one step where all its answers are of the first two kinds, or
 //! where all others are alarms that go on, and the points of each eight are of no more than two zones: what such
-//! alarms tell is found at the start, once for each block. Any other block, and what is left of one, is taken eight
-//! by eight. A run within a group of eight is passed over in one step where all its answers are of the first two
-//! kinds, and in one step for each zone where all others are alarms that go on. Of any other run each answer that is
-//! of neither of the first two kinds is taken by itself, which costs the same, whatever the site. A turn takes no
-//! memory; only [`Decide::new`] does.
+//! alarms tell is found at the start, once for each block. In any other whole block of which that is found, each answer
+//! that is of none of the three kinds is taken by itself, and those between are passed over; the findings are put in
+//! one step, up to the first alarm of a call point or in a zone that isn't plain. Any other block, and what is left of
+//! one, is taken eight by eight. A run within a group of eight is passed over in one step where all its answers are of
+//! the first two kinds, and in one step for each zone where all others are alarms that go on. Of any other run each
+//! answer that is of neither of the first two kinds is taken by itself, which costs the same, whatever the site. A turn
+//! takes no memory; only [`Decide::new`] does.
 #![tactic(auto)]
 
 mod alarms;
 mod bits;
+mod block_findings;
 mod block_zones;
 mod blocks;
+mod changed_blocks;
 mod decide;
 mod eight_zones;
 mod gathering;
@@ -45,6 +49,7 @@ mod known_zones;
 mod observation;
 mod partner_finding;
 mod partners;
+mod plain_finding;
 mod plain_zone;
 mod point_stamp;
 mod point_watch;

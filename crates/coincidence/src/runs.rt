@@ -29,7 +29,7 @@ impl Decide {
     {
         let mut left = self.pass_steady(runs, findings);
         while let [run, rest @ ..] = left {
-            self.take_eights(run, findings);
+            self.take_block(run, findings);
             left = self.pass_steady(rest, findings);
         }
     }
