@@ -1,65 +1,34 @@
 -- The answers of a whole block are taken one after the other: those that change nothing are passed, and each is found
 -- plainly.
-use Rattle.std.proofs.Common.{◌≡◌, ◌≢◌, ℕ, zero, suc, ◌+◌, ◌-◌, ◌*◌, ◌/◌, ◌%◌, ◌^◌, ◌<◌, ◌≤◌, ◌==◌, ◌&&◌, ◌||◌, Bool, true, false, List, [], ◌∷◌, ◌++◌}
-use Rattle.std.proofs.Common.{bit_and, get_or, if◌then◌else◌, length, map, slice_index, slice_index_or, refl, sym, ◌∙◌, ap, subst, arith, inl, inr}
-use Rattle.std.proofs.lemmas.Bool.Decides.{eqb_tells}
+use Rattle.std.proofs.Common.{◌≡◌, ◌≢◌, ℕ, zero, suc, ◌+◌, ◌-◌, ◌/◌, ◌%◌, ◌<◌, ◌≤◌, List, [], ◌∷◌, ◌++◌}
+use Rattle.std.proofs.Common.{length, map, slice_index, refl, sym, ◌∙◌, ap, subst, arith}
 use Rattle.std.proofs.lemmas.List.{map-append}
 use Rattle.std.proofs.lemmas.List.FromFn.{map-range_with_len_more}
-use Rattle.std.specs.Int.{w32, bit_not, to_le_bytes}
-use Rattle.std.specs.Int.Bits.{bit_or}
 use Rattle.std.specs.List.{range_with_len}
-use Rattle.tick_units.specs.Lane.{HasRoom, LaneState, with_put}
-use Rattle.site_types.specs.declared.answer.Answer.{Answer}
-use Rattle.site_types.specs.declared.heard.Heard.TheVariants.{Alarm, Quiet, Silent}
-use Rattle.site_types.specs.declared.retained.Retained.{Retained}
+use Rattle.tick_units.specs.Lane.{LaneState, with_put}
 use Rattle.site_types.specs.declared.site.Site.{Site}
 use Rattle.site_types.specs.Bits.{has_bit}
-use Rattle.site_types.specs.Done.{Done}
-use Rattle.site_types.proofs.Masks.{has_bit-and, has_bit-not, has_bit-or, has_bit-zero}
 use Rattle.answer_lanes.specs.declared.answer_block.AnswerBlock.{AnswerBlock}
-use Rattle.answer_lanes.specs.declared.answer_group.AnswerGroup.{AnswerGroup}
 use Rattle.answer_lanes.specs.declared.finding_block.FindingBlock.{FindingBlock}
-use Rattle.answer_lanes.specs.declared.finding_group.FindingGroup.{FindingGroup}
 use Rattle.answer_lanes.specs.declared.run.Run.{Run}
-use Rattle.answer_lanes.specs.declared.told.Told.{Told}
-use Rattle.answer_lanes.specs.Blocks.{block_answer_at, block_finding_at, eight_of, none_told, plainly}
-use Rattle.answer_lanes.specs.Places.{has_place}
-use Rattle.answer_lanes.specs.Points.{answer_at, finding_at, mask_if}
+use Rattle.answer_lanes.specs.Blocks.{block_answer_at, block_finding_at, eight_of}
 use Rattle.answer_lanes.specs.Runs.{items_of}
-use Rattle.answer_lanes.specs.Words.{AreBitsOf, AreEights}
 use Rattle.answer_lanes.proofs.Moving.{length_run, range_parts}
-use Rattle.answer_lanes.proofs.Words.{bits_parted}
-use Rattle.coincidence_rules.proofs.Lists.{and_both}
-use Rattle.coincidence_rules.specs.Counted.{is_alarm, is_silent}
 use Rattle.coincidence_rules.specs.declared.finding.Finding.{Finding}
-use Rattle.coincidence_rules.specs.Findings.{finding_of, findings_after}
+use Rattle.coincidence_rules.specs.Findings.{findings_after}
 use Rattle.coincidence.specs.declared.block_findings.BlockFindings.{BlockFindings}
 use Rattle.coincidence.specs.declared.block_zones.BlockZones.{BlockZones}
 use Rattle.coincidence.specs.declared.decide.Decide.{Decide}
-use Rattle.coincidence.specs.declared.judgement.Judgement.{Judgement}
 use Rattle.coincidence.specs.declared.plain_finding.PlainFinding.{PlainFinding}
-use Rattle.coincidence.specs.declared.plain_zone.PlainZone.{PlainZone}
-use Rattle.coincidence.specs.declared.point_watch.PointWatch.{PointWatch}
-use Rattle.coincidence.specs.ChangedBlocks.{AreHeardFrom, ArePassedIn, IsPassed, PassTo, TakesFirst, TakesPlainly, TellPlainly}
-use Rattle.coincidence.specs.ChangedBlocks.{first_of_block, found_at, found_in, found_plainly, heard_plainly}
+use Rattle.coincidence.specs.ChangedBlocks.{AreHeardFrom, PassesPlainly, PassesTo, TakesFirst, TakesPlainly, TellPlainly}
+use Rattle.coincidence.specs.ChangedBlocks.{first_of_block, finding_by_bits, found_by_bits, found_plainly}
 use Rattle.coincidence.specs.Changes.{CanTakeRunOf, PutsFindings, TakesAnswers, TakesRunOf}
-use Rattle.coincidence.specs.GoingOn.{IsMarkedAlarm}
-use Rattle.coincidence.specs.Observations.{Judges}
-use Rattle.coincidence.specs.PlainZones.{IsOfPoint}
 use Rattle.coincidence.specs.Premises.{MayTake}
-use Rattle.coincidence.specs.Resting.{LeavesPoint}
-use Rattle.coincidence.specs.Stands.{CanTake, DecidesFor}
-use Rattle.coincidence.specs.Steady.{AreStillIn, HasNumberedPoints, all_of_block}
-use Rattle.coincidence.specs.ZoneMasks.{ArePlainlyTold, HasBlock, IsMaskAt, TellsBlockZones, mask_in}
-use Rattle.coincidence.proofs.BlockWords.{not_is, silent_bytes}
-use Rattle.coincidence.proofs.FindingIs.{HasBit, finding_by}
-use Rattle.coincidence.proofs.GoingOn.{found_marked, stands_marked}
-use Rattle.coincidence.proofs.PlainAlarms.{plain_alarm_is}
-use Rattle.coincidence.proofs.PlainZones.{not_silent, said_of}
-use Rattle.coincidence.proofs.Resting.{point_is, takes_one_at_rest, tells_none_at_rest}
+use Rattle.coincidence.specs.Stands.{CanTake}
+use Rattle.coincidence.specs.Steady.{HasNumberedPoints, all_of_block}
+use Rattle.coincidence.specs.ZoneMasks.{HasBlock, IsMaskAt, TellsBlockZones, mask_in}
+use Rattle.coincidence.proofs.Resting.{point_is}
 use Rattle.coincidence.proofs.Turned.{can_behind, can_front, can_next, findings_both, may_behind, may_front, puts_both, room_behind, takes_both, takes_none}
-use Rattle.coincidence.proofs.Watched.{fits_next, watched, zone_watched}
-use Rattle.coincidence.proofs.ZoneMasks.{alarm_is, no_mask}
 use Rattle.coincidence.proofs.PlainlyFound.{eight_less, same_found, within_eight}
 
 same_maps : (f g : ℕ → Finding) (from count : ℕ) → ((k : ℕ) → from ≤ k → k < from + count → f k ≡ g k)
@@ -119,8 +88,8 @@ module _ (old : Decide) (block : AnswerBlock) where
 
   -- and then is one of the first, where what is found of those before it stays so
   first_more : HasNumberedPoints block → (now next : Decide) (found more : BlockFindings) → TakesFirst old block found now → found.count < 32
-      → more.count ≡ found.count + 1 → ((k : ℕ) → k < found.count → found_in more k ≡ found_in found k)
-      → TakesPlainly now (block_answer_at block found.count) (found_in more found.count) next → TakesFirst old block more next
+      → more.count ≡ found.count + 1 → ((k : ℕ) → k < found.count → found_by_bits more k ≡ found_by_bits found k)
+      → TakesPlainly now (block_answer_at block found.count) (found_by_bits more found.count) next → TakesFirst old block more next
   first_more numbers now next found more h small at same one =
       let count = found.count in
       let item = block_answer_at block count in
@@ -137,18 +106,18 @@ module _ (old : Decide) (block : AnswerBlock) where
             ap (findings_after site kept panel done taken) more_is
             ∙ findings_both site kept panel done taken first (item ∷ [])
             ∙ ap (λ fs. fs ++ findings_after site kept panel done (taken ++ first) (item ∷ [])) (h.each site kept panel done taken stands front zones tells of)
-            ∙ ap (λ f. map (found_at block zones found) (range_with_len 0 count) ++ f ∷ [])
+            ∙ ap (λ f. map (finding_by_bits block zones found) (range_with_len 0 count) ++ f ∷ [])
             (sym (one.found site kept panel done (taken ++ first) before (may_behind first (item ∷ []) both) (mask_in zones (count / 8) (count % 8)) mask))
-            ∙ ap (λ fs. fs ++ found_at block zones more count ∷ [])
-            (same_maps (found_at block zones found) (found_at block zones more) 0 count
+            ∙ ap (λ fs. fs ++ finding_by_bits block zones more count ∷ [])
+            (same_maps (finding_by_bits block zones found) (finding_by_bits block zones more) 0 count
             (λ k from less.
             ap (found_plainly (block_answer_at block k) (mask_in zones (k / 8) (k % 8))) (sym (same k (omega (arith, less))))))
-            ∙ sym (map-range_with_len_more (found_at block zones more) 0 count count (omega arith))
-            ∙ ap (λ n. map (found_at block zones more) (range_with_len 0 n)) (sym at);
+            ∙ sym (map-range_with_len_more (finding_by_bits block zones more) 0 count count (omega arith))
+            ∙ ap (λ n. map (finding_by_bits block zones more) (range_with_len 0 n)) (sym at);
       }
 
   pass_some : HasNumberedPoints block → (now : Decide) (steps : ℕ) (found : BlockFindings) (next : ℕ) → next ≡ found.count + steps → next ≤ 32
-      → ((k : ℕ) → found.count ≤ k → k < next → IsPassed now (block_answer_at block k)) → AreHeardFrom block found.count found
+      → ((k : ℕ) → found.count ≤ k → k < next → PassesPlainly now (block_answer_at block k)) → AreHeardFrom block found.count found
       → TakesFirst old block found now → TakesFirst old block (record found { count = next }) now
   pass_some numbers now zero found next is most passed heard h =
       let same : found.count ≡ next = omega (arith, is) in
@@ -164,12 +133,12 @@ module _ (old : Decide) (block : AnswerBlock) where
 
   -- those that change nothing are passed
   pub passed_to : HasNumberedPoints block → (now : Decide) (found : BlockFindings) (next : ℕ) → TakesFirst old block found now
-      → AreHeardFrom block found.count found → PassTo now block found.count next → TakesFirst old block (record found { count = next }) now
+      → AreHeardFrom block found.count found → PassesTo now block found.count next → TakesFirst old block (record found { count = next }) now
   passed_to numbers now found next h heard pass =
       let least = pass.least in
       pass_some numbers now (next - found.count) found next (omega (arith, least)) pass.most pass.passed heard h
 
-  pub begun : HasNumberedPoints block → (found : BlockFindings) (next : ℕ) → found.count ≡ 0 → AreHeardFrom block 0 found → PassTo old block 0 next
+  pub begun : HasNumberedPoints block → (found : BlockFindings) (next : ℕ) → found.count ≡ 0 → AreHeardFrom block 0 found → PassesTo old block 0 next
       → TakesFirst old block (record found { count = next }) old
   begun numbers found next none heard pass =
       passed_to numbers old (record found { count = 0 }) next (none_first (record found { count = 0 }) refl) heard pass
@@ -180,20 +149,21 @@ module _ (old : Decide) (block : AnswerBlock) where
       → TakesPlainly now (block_answer_at block found.count) one next
       → has_bit telling found.count ≡ one.telling → ((k : ℕ) → k < 32 → k ≢ found.count → has_bit telling k ≡ has_bit found.telling k)
       → has_bit missing found.count ≡ one.missing → ((k : ℕ) → k < 32 → k ≢ found.count → has_bit missing k ≡ has_bit found.missing k)
-      → PassTo next block (found.count + 1) place
+      → PassesTo next block (found.count + 1) place
       → TakesFirst old block (record { count = place; telling = telling; missing = missing }) next
       × AreHeardFrom block place (record { count = place; telling = telling; missing = missing })
-  taken_on numbers now next found one telling missing place h heard small takes tells other_tells misses other_misses pass =
-      (passed_to numbers next more place (first_more numbers now next found more h small refl (λ k less. same k (omega (arith, less, small)) (λ e. omega (arith, e, less))) this) ahead pass,
-      λ k from within. let least = pass.least in ahead k (omega (arith, from, least)) within)
+  taken_on numbers now next found one telling missing place h heard small takes tells other_tells misses other_misses pass = (
+    passed_to numbers next more place (first_more numbers now next found more h small refl (λ k less. same k (omega (arith, less, small)) (λ e. omega (arith, e, less))) this) ahead pass,
+    λ k from within. let least = pass.least in ahead k (omega (arith, from, least)) within,
+  )
     where
       more : BlockFindings
       more = record { count = found.count + 1; telling = telling; missing = missing }
 
-      same : (k : ℕ) → k < 32 → k ≢ found.count → found_in more k ≡ found_in found k
+      same : (k : ℕ) → k < 32 → k ≢ found.count → found_by_bits more k ≡ found_by_bits found k
       same k within apart = same_found _ _ _ _ (other_tells k within apart) (other_misses k within apart)
 
-      this : TakesPlainly now (block_answer_at block found.count) (found_in more found.count) next
+      this : TakesPlainly now (block_answer_at block found.count) (found_by_bits more found.count) next
       this = subst (λ f. TakesPlainly now (block_answer_at block found.count) f next)
           (sym (same_found (has_bit telling found.count) (has_bit missing found.count) one.telling one.missing tells misses)) takes
 
@@ -210,7 +180,7 @@ module _ (old : Decide) (block : AnswerBlock) where
         let few = h.few in
         put
         ∙ ap (with_put lane)
-        (same_maps (block_finding_at told) (found_at block zones found) 0 found.count (λ k from less. tells k (omega (arith, less, few)))
+        (same_maps (block_finding_at told) (finding_by_bits block zones found) 0 found.count (λ k from less. tells k (omega (arith, less, few)))
         ∙ sym (h.each site kept panel done taken stands may zones (stands.told known.number zones known.is) known.of))
 
     abbrev rest : Run AnswerBlock

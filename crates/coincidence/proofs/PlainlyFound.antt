@@ -1,13 +1,8 @@
 -- What is found of an answer that tells plainly of the zone of its point or of none, and which answers of a block are passed.
-use Rattle.std.proofs.Common.{◌≡◌, ◌≢◌, ℕ, zero, suc, ◌+◌, ◌-◌, ◌*◌, ◌/◌, ◌%◌, ◌^◌, ◌<◌, ◌≤◌, ◌==◌, ◌&&◌, ◌||◌, Bool, true, false, List, [], ◌∷◌, ◌++◌}
-use Rattle.std.proofs.Common.{bit_and, get_or, if◌then◌else◌, length, map, slice_index, slice_index_or, refl, sym, ◌∙◌, ap, subst, arith, inl, inr}
-use Rattle.std.proofs.lemmas.Bool.Decides.{eqb_tells}
-use Rattle.std.proofs.lemmas.List.{map-append}
-use Rattle.std.proofs.lemmas.List.FromFn.{map-range_with_len_more}
+use Rattle.std.proofs.Common.{◌≡◌, ℕ, ◌+◌, ◌*◌, ◌/◌, ◌%◌, ◌^◌, ◌<◌, ◌≤◌, ◌==◌, ◌&&◌, ◌||◌, Bool, true, false, List, [], ◌∷◌, ◌++◌}
+use Rattle.std.proofs.Common.{bit_and, get_or, if◌then◌else◌, slice_index, slice_index_or, refl, sym, ◌∙◌, ap, arith}
 use Rattle.std.specs.Int.{w32, bit_not, to_le_bytes}
 use Rattle.std.specs.Int.Bits.{bit_or}
-use Rattle.std.specs.List.{range_with_len}
-use Rattle.tick_units.specs.Lane.{HasRoom, LaneState, with_put}
 use Rattle.site_types.specs.declared.answer.Answer.{Answer}
 use Rattle.site_types.specs.declared.heard.Heard.TheVariants.{Alarm, Quiet, Silent}
 use Rattle.site_types.specs.declared.retained.Retained.{Retained}
@@ -16,22 +11,16 @@ use Rattle.site_types.specs.Bits.{has_bit}
 use Rattle.site_types.specs.Done.{Done}
 use Rattle.site_types.proofs.Masks.{has_bit-and, has_bit-not, has_bit-or, has_bit-zero}
 use Rattle.answer_lanes.specs.declared.answer_block.AnswerBlock.{AnswerBlock}
-use Rattle.answer_lanes.specs.declared.answer_group.AnswerGroup.{AnswerGroup}
-use Rattle.answer_lanes.specs.declared.finding_block.FindingBlock.{FindingBlock}
 use Rattle.answer_lanes.specs.declared.finding_group.FindingGroup.{FindingGroup}
-use Rattle.answer_lanes.specs.declared.run.Run.{Run}
 use Rattle.answer_lanes.specs.declared.told.Told.{Told}
-use Rattle.answer_lanes.specs.Blocks.{block_answer_at, block_finding_at, eight_of, none_told, plainly}
+use Rattle.answer_lanes.specs.Blocks.{block_answer_at, eight_of, none_told, plainly}
 use Rattle.answer_lanes.specs.Places.{has_place}
-use Rattle.answer_lanes.specs.Points.{answer_at, finding_at, mask_if}
-use Rattle.answer_lanes.specs.Runs.{items_of}
+use Rattle.answer_lanes.specs.Points.{finding_at, mask_if}
 use Rattle.answer_lanes.specs.Words.{AreBitsOf, AreEights}
-use Rattle.answer_lanes.proofs.Moving.{length_run, range_parts}
 use Rattle.answer_lanes.proofs.Words.{bits_parted}
 use Rattle.coincidence_rules.proofs.Lists.{and_both}
 use Rattle.coincidence_rules.specs.Counted.{is_alarm, is_silent}
-use Rattle.coincidence_rules.specs.declared.finding.Finding.{Finding}
-use Rattle.coincidence_rules.specs.Findings.{finding_of, findings_after}
+use Rattle.coincidence_rules.specs.Findings.{finding_of}
 use Rattle.coincidence.specs.declared.block_findings.BlockFindings.{BlockFindings}
 use Rattle.coincidence.specs.declared.block_zones.BlockZones.{BlockZones}
 use Rattle.coincidence.specs.declared.decide.Decide.{Decide}
@@ -39,24 +28,22 @@ use Rattle.coincidence.specs.declared.judgement.Judgement.{Judgement}
 use Rattle.coincidence.specs.declared.plain_finding.PlainFinding.{PlainFinding}
 use Rattle.coincidence.specs.declared.plain_zone.PlainZone.{PlainZone}
 use Rattle.coincidence.specs.declared.point_watch.PointWatch.{PointWatch}
-use Rattle.coincidence.specs.ChangedBlocks.{AreHeardFrom, ArePassedIn, IsPassed, PassTo, TakesFirst, TakesPlainly, TellPlainly}
-use Rattle.coincidence.specs.ChangedBlocks.{first_of_block, found_at, found_in, found_plainly, heard_plainly}
-use Rattle.coincidence.specs.Changes.{CanTakeRunOf, PutsFindings, TakesAnswers, TakesRunOf}
+use Rattle.coincidence.specs.ChangedBlocks.{AreHeardFrom, ArePassedIn, PassesPlainly, PassesTo, TellPlainly}
+use Rattle.coincidence.specs.ChangedBlocks.{found_by_bits, found_plainly}
 use Rattle.coincidence.specs.GoingOn.{IsMarkedAlarm}
 use Rattle.coincidence.specs.Observations.{Judges}
 use Rattle.coincidence.specs.PlainZones.{IsOfPoint}
 use Rattle.coincidence.specs.Premises.{MayTake}
 use Rattle.coincidence.specs.Resting.{LeavesPoint}
-use Rattle.coincidence.specs.Stands.{CanTake, DecidesFor}
-use Rattle.coincidence.specs.Steady.{AreStillIn, HasNumberedPoints, all_of_block}
-use Rattle.coincidence.specs.ZoneMasks.{ArePlainlyTold, HasBlock, IsMaskAt, TellsBlockZones, mask_in}
+use Rattle.coincidence.specs.Stands.{DecidesFor}
+use Rattle.coincidence.specs.Steady.{AreStillIn, HasNumberedPoints}
+use Rattle.coincidence.specs.ZoneMasks.{ArePlainlyTold, IsMaskAt}
 use Rattle.coincidence.proofs.BlockWords.{not_is, silent_bytes}
 use Rattle.coincidence.proofs.FindingIs.{HasBit, finding_by}
 use Rattle.coincidence.proofs.GoingOn.{found_marked, stands_marked}
 use Rattle.coincidence.proofs.PlainAlarms.{plain_alarm_is}
 use Rattle.coincidence.proofs.PlainZones.{not_silent, said_of}
 use Rattle.coincidence.proofs.Resting.{point_is, takes_one_at_rest, tells_none_at_rest}
-use Rattle.coincidence.proofs.Turned.{can_behind, can_front, can_next, findings_both, may_behind, may_front, puts_both, room_behind, takes_both, takes_none}
 use Rattle.coincidence.proofs.Watched.{fits_next, watched, zone_watched}
 use Rattle.coincidence.proofs.ZoneMasks.{alarm_is, no_mask}
 
@@ -112,14 +99,14 @@ detector_found {site} {kept} {panel} {done} {taken} {decide} stands answer may n
 
 -- ---- which answers are passed
 
-left_passed : (decide : Decide) (answer : Answer) → LeavesPoint decide answer → IsPassed decide answer
+left_passed : (decide : Decide) (answer : Answer) → LeavesPoint decide answer → PassesPlainly decide answer
 left_passed decide answer leaves_point = record {
   taken = takes_one_at_rest decide answer leaves_point;
   found = λ site kept panel done taken stands may zones mask.
       tells_none_at_rest decide answer leaves_point zones site kept panel done taken stands may;
 }
 
-marked_passed : (decide : Decide) (answer : Answer) → IsMarkedAlarm decide answer → decide.since.0 ≤ answer.stamp.0 → IsPassed decide answer
+marked_passed : (decide : Decide) (answer : Answer) → IsMarkedAlarm decide answer → decide.since.0 ≤ answer.stamp.0 → PassesPlainly decide answer
 marked_passed decide answer marked since = record {
   taken = λ site kept panel done taken stands may. stands_marked stands answer may marked since;
   found = λ site kept panel done taken stands may zones mask. found_marked stands answer may marked since zones mask;
@@ -146,7 +133,7 @@ going_passed decide block numbers since still going alarms stills are_going are_
     behind_still true c e h = absurd (cc)
     behind_still false c e h = h
 
-    by : (b : Bool) → has_bit still place ≡ b → IsPassed decide (block_answer_at block place)
+    by : (b : Bool) → has_bit still place ≡ b → PassesPlainly decide (block_answer_at block place)
     by true is = still_passed decide block still stills place small is
     by false is =
         let eight = eight_of block number in
@@ -166,7 +153,7 @@ going_passed decide block numbers since still going alarms stills are_going are_
 
 -- where none of the others is among some answers, these are passed
 pub passed_below : (decide : Decide) (block : AnswerBlock) (word place next : ℕ) → word < 2 ^ 32 → ArePassedIn decide block word → place ≤ next → next ≤ 32
-    → ((k : ℕ) → place ≤ k → k < next → has_bit (bit_not w32 word) k ≡ false) → PassTo decide block place next
+    → ((k : ℕ) → place ≤ k → k < next → has_bit (bit_not w32 word) k ≡ false) → PassesTo decide block place next
 passed_below decide block word place next fits pass least most none = record {
   least = least;
   most = most;
@@ -236,7 +223,7 @@ told_in_words block zones found telling missing plain are_telling are_missing pl
     misses : has_bit (slice_index missing number) k ≡ has_bit found.missing place
     misses = sym (are_missing number k (eight_less place small) (within_eight place)) ∙ ap (has_bit found.missing) (at_place place)
 
-    of_zones : (mask : ℕ) → finding_at (plainly mask (group none_told)) k ≡ found_plainly (block_answer_at block place) mask (found_in found place)
+    of_zones : (mask : ℕ) → finding_at (plainly mask (group none_told)) k ≡ found_plainly (block_answer_at block place) mask (found_by_bits found place)
     of_zones mask =
         let answer = block_answer_at block place in
         let told = has_bit (slice_index telling number) k in
@@ -247,6 +234,6 @@ told_in_words block zones found telling missing plain are_telling are_missing pl
         (mask_if (has_bit found.telling place) mask)) misses
 
     by : (b : Bool) → finding_at (if b then plainly other (group (slice_index_or zones.told number none_told)) else group (slice_index_or zones.told number none_told)) k
-        ≡ found_plainly (block_answer_at block place) (if b then other else own) (found_in found place)
+        ≡ found_plainly (block_answer_at block place) (if b then other else own) (found_by_bits found place)
     by true = of_zones other
     by false = ap (λ told. finding_at (group told) k) (plain number (eight_less place small)) ∙ of_zones own

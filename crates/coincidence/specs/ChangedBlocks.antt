@@ -1,6 +1,6 @@
--- Whole blocks of which some answers change what is kept, and what is found of them by the bits of two words: each answer
--- tells plainly of the zone of its point or of none, and its point is missing or not.
-use Rattle.std.specs.Prelude.{◌≡◌, ◌/◌, ◌%◌, ◌<◌, ◌≤◌, ℕ, Bool, List, [], ◌∷◌, map, true}
+-- Whole blocks of which some answers change what is kept, and what is found of them by the bits of two words: each
+-- answer tells plainly of the zone of its point or of none, and its point is missing or not.
+use Rattle.std.specs.Prelude.{◌≡◌, ◌/◌, ◌%◌, ◌<◌, ◌≤◌, ℕ, List, [], ◌∷◌, map, true}
 use Rattle.std.specs.List.{range_with_len}
 use Rattle.site_types.specs.declared.answer.Answer.{Answer}
 use Rattle.site_types.specs.declared.retained.Retained.{Retained}
@@ -61,38 +61,39 @@ pub record TakesPlainly (old : Decide) (answer : Answer) (told : PlainFinding) (
   pub taken : TakesAnswers old (answer ∷ []) decide
   pub found : FindsPlainly old answer told
 
--- what is found of an answer by what is heard alone: an alarm tells of its zone, and the point of a silent one is missing
+-- what is found of an answer by what is heard alone: an alarm tells of its zone, and the point of a silent one is
+-- missing
 abbrev pub heard_plainly : Answer → PlainFinding
 heard_plainly answer = record { telling = is_alarm answer.heard; missing = is_silent answer.heard }
 
 -- an answer leaves all that is kept as it is, and no more is found of it than what is heard
-abbrev pub IsPassed : Decide → Answer → Type 0
-IsPassed decide answer = TakesPlainly decide answer (heard_plainly answer) decide
+abbrev pub PassesPlainly : Decide → Answer → Type 0
+PassesPlainly decide answer = TakesPlainly decide answer (heard_plainly answer) decide
 
 -- the answers of a block of which the bits of a word tell leave all that is kept as it is
 abbrev pub ArePassedIn : Decide → AnswerBlock → ℕ → Type 0
 ArePassedIn decide block word =
-    (place : ℕ) → place < 32 → has_bit word place ≡ true → IsPassed decide (block_answer_at block place)
+    (place : ℕ) → place < 32 → has_bit word place ≡ true → PassesPlainly decide (block_answer_at block place)
 
 -- the answers of a block from a place on, before another place, leave all that is kept as it is
-pub record PassTo (decide : Decide) (block : AnswerBlock) (place next : ℕ) : Type 0 where
+pub record PassesTo (decide : Decide) (block : AnswerBlock) (place next : ℕ) : Type 0 where
   pub least : place ≤ next
   pub most : next ≤ 32
-  pub passed : (k : ℕ) → place ≤ k → k < next → IsPassed decide (block_answer_at block k)
+  pub passed : (k : ℕ) → place ≤ k → k < next → PassesPlainly decide (block_answer_at block k)
 
 -- what is found of the answer at a place of a block
-abbrev pub found_in : BlockFindings → ℕ → PlainFinding
-found_in found place = record { telling = has_bit found.telling place; missing = has_bit found.missing place }
+abbrev pub found_by_bits : BlockFindings → ℕ → PlainFinding
+found_by_bits found place = record { telling = has_bit found.telling place; missing = has_bit found.missing place }
 
 -- its finding, where it is known in which zones the points of the block stand
-abbrev pub found_at : AnswerBlock → BlockZones → BlockFindings → ℕ → Finding
-found_at block zones found place =
-    found_plainly (block_answer_at block place) (mask_in zones (place / 8) (place % 8)) (found_in found place)
+abbrev pub finding_by_bits : AnswerBlock → BlockZones → BlockFindings → ℕ → Finding
+finding_by_bits block zones found place =
+    found_plainly (block_answer_at block place) (mask_in zones (place / 8) (place % 8)) (found_by_bits found place)
 
 -- no more is found of the answers of a block from a place on than what is heard
 abbrev pub AreHeardFrom : AnswerBlock → ℕ → BlockFindings → Type 0
 AreHeardFrom block place found =
-    (k : ℕ) → place ≤ k → k < 32 → found_in found k ≡ heard_plainly (block_answer_at block k)
+    (k : ℕ) → place ≤ k → k < 32 → found_by_bits found k ≡ heard_plainly (block_answer_at block k)
 
 -- the first answers of a block are taken after those before them, and this is found of each
 pub record TakesFirst (old : Decide) (block : AnswerBlock) (found : BlockFindings) (decide : Decide) : Type 0 where
@@ -103,9 +104,9 @@ pub record TakesFirst (old : Decide) (block : AnswerBlock) (found : BlockFinding
       → MayTake site panel done taken (first_of_block block found.count)
       → (zones : BlockZones) → TellsBlockZones site.points site.zones zones → zones.firsts ≡ block.firsts
       → findings_after site kept panel done taken (first_of_block block found.count)
-      ≡ map (found_at block zones found) (range_with_len 0 found.count)
+      ≡ map (finding_by_bits block zones found) (range_with_len 0 found.count)
 
 -- the findings of all answers of a block are those of which so much is found
 abbrev pub TellPlainly : AnswerBlock → BlockZones → BlockFindings → FindingBlock → Type 0
 TellPlainly block zones found told =
-    (place : ℕ) → place < 32 → block_finding_at told place ≡ found_at block zones found place
+    (place : ℕ) → place < 32 → block_finding_at told place ≡ finding_by_bits block zones found place

@@ -137,7 +137,12 @@ impl Decide {
     }
 
     // What the operations done before such an alarm say of it.
-    pub(crate) fn judge_in(&self, answer: &Answer, point: &PointWatch, zone: &PlainZone) -> Judgement
+    pub(crate) fn judge_in(
+        &self,
+        answer: &Answer,
+        point: &PointWatch,
+        zone: &PlainZone,
+    ) -> Judgement
         requires may { CanObserve self.now answer.now }
         requires read { point.now ≡ slice_index_or self.now.points answer.now.point point.now }
         requires alarm { is_alarm answer.now.heard ≡ true }

@@ -16,15 +16,15 @@ use site_types::{Answer, Heard, with_bit_32};
 
 impl Decide {
     ghost use Rattle.coincidence.specs.Changes.{CanTakeRunOf, TakesRunOf};
-    ghost use Rattle.coincidence.specs.ChangedBlocks.{ArePassedIn, PassTo, TakesFirst, TakesPlainly, first_of_block};
+    ghost use Rattle.coincidence.specs.ChangedBlocks.{ArePassedIn, PassesTo, TakesFirst, TakesPlainly, first_of_block};
     ghost use Rattle.coincidence.specs.PlainZones.{IsKnown, IsOfPoint, KnowsZone};
     ghost use Rattle.coincidence.specs.Stands.{CanTake};
     ghost use Rattle.coincidence.specs.Steady.{HasNumberedPoints, all_of_block};
     ghost use Rattle.coincidence.specs.ZoneMasks.{HasBlock};
 
-    // Takes the answers of a run of a block, and puts one finding for each: as one run where it is a whole block of which
-    // it is known in which zones its points stand. It stands apart from the way of blocks that change nothing, so that
-    // it need not share registers with it.
+    // Takes the answers of a run of a block, and puts one finding for each: as one run where it is a whole block of
+    // which it is known in which zones its points stand. It stands apart from the way of blocks that change nothing, so
+    // that it need not share registers with it.
     #[inline(never)]
     pub(crate) fn take_block(&mut self, run: &Run<AnswerBlock>, findings: &mut Lane<FindingBlock>)
         requires { CanTakeRunOf block_answer_at self.old run.now findings.old }
@@ -40,8 +40,8 @@ impl Decide {
         self.take_whole(&run.first, &zones, findings);
     }
 
-    // Takes the answers of a whole block, and puts one finding for each. From the first answer on that may tell otherwise
-    // than plainly of the zone of its point it is taken eight by eight.
+    // Takes the answers of a whole block, and puts one finding for each. From the first answer on that may tell
+    // otherwise than plainly of the zone of its point it is taken eight by eight.
     fn take_whole(
         &mut self,
         block: &AnswerBlock,
@@ -96,7 +96,7 @@ impl Decide {
     fn next_changing(&self, block: &AnswerBlock, place: u8) -> u8
         requires numbers { HasNumberedPoints block.now }
         requires place { place ≤ 32 }
-        ensures { PassTo self.now block.now place result }
+        ensures { PassesTo self.now block.now place result }
     {
         lowest_from(!self.passing_in(block), place)
     }
@@ -114,8 +114,8 @@ impl Decide {
         still | self.going_on.eights_from(&block.firsts) & joined(&block.alarms)
     }
 
-    // Takes an answer, unless it may tell otherwise than plainly of the zone of its point. What is known of a zone in its
-    // tick is kept for the next answer of that tick.
+    // Takes an answer, unless it may tell otherwise than plainly of the zone of its point. What is known of a zone in
+    // its tick is kept for the next answer of that tick.
     #[inline(always)]
     fn take_plainly(
         &mut self,

@@ -1,4 +1,4 @@
-use Rattle.std.proofs.Common.{refl, sym, subst}
+use Rattle.std.proofs.Common.{sym, subst}
 use Rattle.answer_lanes.specs.Blocks.{block_answer_at}
 use Rattle.coincidence.specs.Changes.{CanTakeRunOf, TakesRunOf}
 use Rattle.coincidence.proofs.decide.Decide.take_block.Goals as goal

@@ -1,4 +1,3 @@
-use Rattle.std.proofs.Common.{arith}
 use Rattle.coincidence.proofs.ChangedBlocks.{all_taken, can_rest, put_first}
 use Rattle.coincidence.proofs.ZoneMasks.{known_plain}
 use Rattle.coincidence.proofs.decide.Decide.take_whole.Goals as goal
