@@ -41,7 +41,7 @@ same_maps f g from (suc count) same =
 -- ---- the first answers of a block
 
 module _ (old : Decide) (block : AnswerBlock) where
-  none_first : (found : BlockFindings) → found.count ≡ 0 → TakesFirst old block found old
+  pub none_first : (found : BlockFindings) → found.count ≡ 0 → TakesFirst old block found old
   none_first found none = subst (λ n. TakesFirst old block (record found { count = n }) old) (sym none) (record {
     few = omega arith;
     taken = takes_none old;
@@ -138,23 +138,17 @@ module _ (old : Decide) (block : AnswerBlock) where
       let least = pass.least in
       pass_some numbers now (next - found.count) found next (omega (arith, least)) pass.most pass.passed heard h
 
-  pub begun : HasNumberedPoints block → (found : BlockFindings) (next : ℕ) → found.count ≡ 0 → AreHeardFrom block 0 found → PassesTo old block 0 next
-      → TakesFirst old block (record found { count = next }) old
-  begun numbers found next none heard pass =
-      passed_to numbers old (record found { count = 0 }) next (none_first (record found { count = 0 }) refl) heard pass
-
-  -- one that may change something is taken, and those behind it that don't are passed
-  pub taken_on : HasNumberedPoints block → (now next : Decide) (found : BlockFindings) (one : PlainFinding) (telling missing place : ℕ)
+  -- one that may change something is taken, and behind it no more is found than what is heard
+  pub taken_on : HasNumberedPoints block → (now next : Decide) (found : BlockFindings) (one : PlainFinding) (telling missing : ℕ)
       → TakesFirst old block found now → AreHeardFrom block found.count found → found.count < 32
       → TakesPlainly now (block_answer_at block found.count) one next
       → has_bit telling found.count ≡ one.telling → ((k : ℕ) → k < 32 → k ≢ found.count → has_bit telling k ≡ has_bit found.telling k)
       → has_bit missing found.count ≡ one.missing → ((k : ℕ) → k < 32 → k ≢ found.count → has_bit missing k ≡ has_bit found.missing k)
-      → PassesTo next block (found.count + 1) place
-      → TakesFirst old block (record { count = place; telling = telling; missing = missing }) next
-      × AreHeardFrom block place (record { count = place; telling = telling; missing = missing })
-  taken_on numbers now next found one telling missing place h heard small takes tells other_tells misses other_misses pass = (
-    passed_to numbers next more place (first_more numbers now next found more h small refl (λ k less. same k (omega (arith, less, small)) (λ e. omega (arith, e, less))) this) ahead pass,
-    λ k from within. let least = pass.least in ahead k (omega (arith, from, least)) within,
+      → TakesFirst old block (record { count = found.count + 1; telling = telling; missing = missing }) next
+      × AreHeardFrom block (found.count + 1) (record { count = found.count + 1; telling = telling; missing = missing })
+  taken_on numbers now next found one telling missing h heard small takes tells other_tells misses other_misses = (
+    first_more numbers now next found more h small refl (λ k less. same k (omega (arith, less, small)) (λ e. omega (arith, e, less))) this,
+    λ k from within. same k within (λ e. omega (arith, e, from)) ∙ heard k (omega (arith, from)) within,
   )
     where
       more : BlockFindings
@@ -166,9 +160,6 @@ module _ (old : Decide) (block : AnswerBlock) where
       this : TakesPlainly now (block_answer_at block found.count) (found_by_bits more found.count) next
       this = subst (λ f. TakesPlainly now (block_answer_at block found.count) f next)
           (sym (same_found (has_bit telling found.count) (has_bit missing found.count) one.telling one.missing tells misses)) takes
-
-      ahead : AreHeardFrom block (found.count + 1) more
-      ahead k from within = same k within (λ e. omega (arith, e, from)) ∙ heard k (omega (arith, from)) within
 
   -- ---- the findings of the first answers are put as one run, and then those behind them are taken
 
@@ -182,6 +173,14 @@ module _ (old : Decide) (block : AnswerBlock) where
         ∙ ap (with_put lane)
         (same_maps (block_finding_at told) (finding_by_bits block zones found) 0 found.count (λ k from less. tells k (omega (arith, less, few)))
         ∙ sym (h.each site kept panel done taken stands may zones (stands.told known.number zones known.is) known.of))
+
+    -- where those are all of the block no other is left
+    pub all_first : (lane put : LaneState Finding) → PutsFindings old (first_of_block block found.count) lane put → found.count ≡ 32
+        → TakesRunOf block_answer_at old (all_of_block block) lane now put
+    all_first lane put puts all = record {
+      taken = subst (λ n. TakesAnswers old (first_of_block block n) now) all h.taken;
+      put = subst (λ n. PutsFindings old (first_of_block block n) lane put) all puts;
+    }
 
     abbrev rest : Run AnswerBlock
     rest = record { first = block; taken = found.count; count = 32 - found.count }

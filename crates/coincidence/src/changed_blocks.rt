@@ -60,6 +60,9 @@ impl Decide {
             taken: 0,
             count: found.count,
         });
+        if found.count == 32 {
+            return;
+        }
         let left = Run {
             first: *block,
             taken: found.count,
@@ -78,15 +81,18 @@ impl Decide {
     {
         let mut found = heard_in(block);
         let mut known = None;
-        found.count = self.next_changing(block, 0);
         while found.count < 32 {
+            found.count = self.next_changing(block, found.count);
+            if found.count == 32 {
+                return found;
+            }
             let answer = block.item_at(found.count);
             let Some(one) = self.take_plainly(&answer, &mut known) else {
                 return found;
             };
             found.telling = with_bit_32(found.telling, found.count, one.telling);
             found.missing = with_bit_32(found.missing, found.count, one.missing);
-            found.count = self.next_changing(block, found.count + 1);
+            found.count += 1;
         }
         found
     }

@@ -1,4 +1,4 @@
-use Rattle.coincidence.proofs.ChangedBlocks.{all_taken, can_rest, put_first}
+use Rattle.coincidence.proofs.ChangedBlocks.{all_first, all_taken, can_rest, put_first}
 use Rattle.coincidence.proofs.ZoneMasks.{known_plain}
 use Rattle.coincidence.proofs.decide.Decide.take_whole.Goals as goal
 
@@ -23,3 +23,11 @@ returns c =
     (put_first c.args.self.now c.args.block.now c.take_first-found.new.self c.take_first-found.result h c.args.zones.now c.told_block.result c.requires.zones
     c.told_block.ensures c.args.findings.now c.put_run.new.self c.put_run.ensures)
     c.take_eights.ensures
+
+pub returns-then-found-eq32 : goal.returns-then-found-eq32
+returns-then-found-eq32 c =
+    let h = c.take_first-found.ensures in
+    all_first c.args.self.now c.args.block.now c.take_first-found.new.self c.take_first-found.result h c.args.findings.now c.put_run.new.self
+    (put_first c.args.self.now c.args.block.now c.take_first-found.new.self c.take_first-found.result h c.args.zones.now c.told_block.result c.requires.zones
+    c.told_block.ensures c.args.findings.now c.put_run.new.self c.put_run.ensures)
+    c.if-found-eq32.true
