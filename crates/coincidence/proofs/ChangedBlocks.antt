@@ -51,7 +51,7 @@ module _ (old : Decide) (block : AnswerBlock) where
   one_more : (count : ℕ) → first_of_block block (count + 1) ≡ first_of_block block count ++ block_answer_at block count ∷ []
   one_more count = map-range_with_len_more (block_answer_at block) 0 count count (omega arith)
 
-  -- and those behind them
+  -- the answers of a block are its first ones and those behind them
   parts_at : (count : ℕ) → count ≤ 32
       → first_of_block block 32 ≡ first_of_block block count ++ items_of block_answer_at (record { first = block; taken = count; count = 32 - count })
   parts_at count few =
@@ -86,7 +86,7 @@ module _ (old : Decide) (block : AnswerBlock) where
       (items_of block_answer_at (record { first = block; taken = count + 1; count = 32 - (count + 1) })) (one_more count)
       (parts_at (count + 1) (omega (arith, small))) can h.taken
 
-  -- and then is one of the first, where what is found of those before it stays so
+  -- one answer more is among the first, where what is found of those before it stays so
   first_more : HasNumberedPoints block → (now next : Decide) (found more : BlockFindings) → TakesFirst old block found now → found.count < 32
       → more.count ≡ found.count + 1 → ((k : ℕ) → k < found.count → found_by_bits more k ≡ found_by_bits found k)
       → TakesPlainly now (block_answer_at block found.count) (found_by_bits more found.count) next → TakesFirst old block more next
@@ -131,14 +131,14 @@ module _ (old : Decide) (block : AnswerBlock) where
       (first_more numbers now now found more h (omega (arith, is, most)) refl (λ k less. refl)
       (subst (λ f. TakesPlainly now item f now) (sym (heard count (omega arith) (omega (arith, is, most)))) (passed count (omega arith) (omega (arith, is)))))
 
-  -- those that change nothing are passed
+  -- answers that change nothing are passed
   pub passed_to : HasNumberedPoints block → (now : Decide) (found : BlockFindings) (next : ℕ) → TakesFirst old block found now
       → AreHeardFrom block found.count found → PassesTo now block found.count next → TakesFirst old block (record found { count = next }) now
   passed_to numbers now found next h heard pass =
       let least = pass.least in
       pass_some numbers now (next - found.count) found next (omega (arith, least)) pass.most pass.passed heard h
 
-  -- one that may change something is taken, and behind it no more is found than what is heard
+  -- an answer that may change something is taken, and behind it no more is found than what is heard
   pub taken_on : HasNumberedPoints block → (now next : Decide) (found : BlockFindings) (one : PlainFinding) (telling missing : ℕ)
       → TakesFirst old block found now → AreHeardFrom block found.count found → found.count < 32
       → TakesPlainly now (block_answer_at block found.count) one next
@@ -174,7 +174,7 @@ module _ (old : Decide) (block : AnswerBlock) where
         (same_maps (block_finding_at told) (finding_by_bits block zones found) 0 found.count (λ k from less. tells k (omega (arith, less, few)))
         ∙ sym (h.each site kept panel done taken stands may zones (stands.told known.number zones known.is) known.of))
 
-    -- where those are all of the block no other is left
+    -- where the first answers are all of the block no other is left
     pub all_first : (lane put : LaneState Finding) → PutsFindings old (first_of_block block found.count) lane put → found.count ≡ 32
         → TakesRunOf block_answer_at old (all_of_block block) lane now put
     all_first lane put puts all = record {

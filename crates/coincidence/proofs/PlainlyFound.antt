@@ -1,4 +1,5 @@
--- What is found of an answer that tells plainly of the zone of its point or of none, and which answers of a block are passed.
+-- What is found of an answer that tells plainly of the zone of its point or of none, and which answers of a block are
+-- passed.
 use Rattle.std.proofs.Common.{◌≡◌, ℕ, ◌+◌, ◌*◌, ◌/◌, ◌%◌, ◌^◌, ◌<◌, ◌≤◌, ◌==◌, ◌&&◌, ◌||◌, Bool, true, false, List, [], ◌∷◌, ◌++◌}
 use Rattle.std.proofs.Common.{bit_and, get_or, if◌then◌else◌, slice_index, slice_index_or, refl, sym, ◌∙◌, ap, arith}
 use Rattle.std.specs.Int.{w32, bit_not, to_le_bytes}
@@ -117,7 +118,7 @@ still_passed decide block word stills place small set_bit =
     left_passed decide (block_answer_at block place)
     (stills (place / 8) (place % 8) (eight_less place small) (within_eight place) (ap (has_bit word) (at_place place) ∙ set_bit))
 
--- those that leave their points, and alarms that go on
+-- answers that leave their points are passed, and alarms that go on
 pub going_passed : (decide : Decide) (block : AnswerBlock) → HasNumberedPoints block → decide.since.0 ≤ block.stamp.0 → (still going alarms : ℕ)
     → AreStillIn decide block still → AreEights decide.going_on block.firsts going → AreBitsOf block.alarms alarms
     → ArePassedIn decide block (bit_or still (bit_and going alarms))
@@ -151,7 +152,7 @@ going_passed decide block numbers since still going alarms stills are_going are_
         })
         since
 
--- where none of the others is among some answers, these are passed
+-- answers before a place are passed where none of those that may change something is among them
 pub passed_below : (decide : Decide) (block : AnswerBlock) (word place next : ℕ) → word < 2 ^ 32 → ArePassedIn decide block word → place ≤ next → next ≤ 32
     → ((k : ℕ) → place ≤ k → k < next → has_bit (bit_not w32 word) k ≡ false) → PassesTo decide block place next
 passed_below decide block word place next fits pass least most none = record {
@@ -164,7 +165,7 @@ passed_below decide block word place next fits pass least most none = record {
 
 -- ---- what is found of a block
 
--- before any of its answers is taken
+-- before any answer of a block is taken no more is found than what is heard
 pub heard_words : (block : AnswerBlock) (alarms silents : ℕ) → alarms < 2 ^ 32 → AreBitsOf block.alarms alarms → AreBitsOf block.silents silents
     → AreHeardFrom block 0 (record { count = 0; telling = alarms; missing = bit_and silents (bit_not w32 alarms) })
 heard_words block alarms silents fits are_alarms are_silents place from small =
@@ -180,7 +181,7 @@ heard_words block alarms silents fits are_alarms are_silents place from small =
     (ap (has_bit word) (sym (at_place place)) ∙ bytes number k less within
     ∙ silent_bytes block alarms silents (to_le_bytes w32 word) fits are_alarms are_silents bytes number k less within)
 
--- as a block of findings
+-- what is found by the bits of two words, as a block of findings
 pub told_in_words : (block : AnswerBlock) (zones : BlockZones) (found : BlockFindings) (telling missing : List ℕ) → ArePlainlyTold zones
     → AreBitsOf telling found.telling → AreBitsOf missing found.missing → TellPlainly block zones found (record {
       stamp = block.stamp;
