@@ -33,17 +33,19 @@ impl Decide {
         if !is_whole(run) {
             return self.take_eights(run, findings);
         }
-        let Some(zones) = self.told.of_firsts(&run.first.firsts) else {
+        let number = self.going_on.number_of(&run.first.firsts);
+        let Some(zones) = self.told.at(number, &run.first.firsts) else {
             return self.take_eights(run, findings);
         };
         let zones = *zones;
-        self.take_whole(&run.first, &zones, findings);
+        self.take_whole(number, &run.first, &zones, findings);
     }
 
     // Takes the answers of a whole block, and puts one finding for each. From the first answer on that may tell
     // otherwise than plainly of the zone of its point it is taken eight by eight.
     fn take_whole(
         &mut self,
+        number: usize,
         block: &AnswerBlock,
         zones: &BlockZones,
         findings: &mut Lane<FindingBlock>,
@@ -54,7 +56,7 @@ impl Decide {
         ensures { TakesRunOf block_answer_at self.old (all_of_block block.now) findings.old self.new
             findings.new }
     {
-        let found = self.take_first(block);
+        let found = self.take_first(number, block);
         findings.put_run(Run {
             first: told_block(block, zones, &found),
             taken: 0,
@@ -74,7 +76,7 @@ impl Decide {
     // Takes the answers of a block up to the first one that may tell otherwise than plainly of the zone of its point.
     // Which of them leave all that is kept as it is, is asked anew behind each one that doesn't.
     #[inline(always)]
-    fn take_first(&mut self, block: &AnswerBlock) -> BlockFindings
+    fn take_first(&mut self, number: usize, block: &AnswerBlock) -> BlockFindings
         requires numbers { HasNumberedPoints block.now }
         requires can { CanTake self.old (first_of_block block.now 32) }
         ensures { TakesFirst self.old block.now result self.new }
@@ -82,7 +84,7 @@ impl Decide {
         let mut found = heard_in(block);
         let mut known = None;
         while found.count < 32 {
-            found.count = self.next_changing(block, found.count);
+            found.count = self.next_changing(number, block, found.count);
             if found.count == 32 {
                 return found;
             }
@@ -99,25 +101,25 @@ impl Decide {
 
     // The place of the first answer of a block, from a place on, that may change what is kept, or 32.
     #[inline(always)]
-    fn next_changing(&self, block: &AnswerBlock, place: u8) -> u8
+    fn next_changing(&self, number: usize, block: &AnswerBlock, place: u8) -> u8
         requires numbers { HasNumberedPoints block.now }
         requires place { place ≤ 32 }
         ensures { PassesTo self.now block.now place result }
     {
-        lowest_from(!self.passing_in(block), place)
+        lowest_from(!self.passing_in(number, block), place)
     }
 
     // Which answers of a block leave all that is kept as it is, a bit for each.
     #[inline(always)]
-    fn passing_in(&self, block: &AnswerBlock) -> u32
+    fn passing_in(&self, number: usize, block: &AnswerBlock) -> u32
         requires { HasNumberedPoints block.now }
         ensures { ArePassedIn self.now block.now result }
     {
-        let still = self.still_in(block);
+        let still = self.still_in(number, block);
         if block.stamp.0 < self.since.0 {
             return still;
         }
-        still | self.going_on.eights_from(&block.firsts) & joined(&block.alarms)
+        still | self.going_on.eights_at(number, &block.firsts) & joined(&block.alarms)
     }
 
     // Takes an answer, unless it may tell otherwise than plainly of the zone of its point. What is known of a zone in

@@ -6,5 +6,5 @@ returns-then-block-self c = still_passed c.args.self.now c.args.block.now c.stil
 
 pub returns : goal.returns
 returns c =
-    going_passed c.args.self.now c.args.block.now c.requires c.if-block-self.false c.still_in-still.result c.eights_from.result c.joined.result
-    c.still_in-still.ensures c.eights_from.ensures c.joined.ensures
+    going_passed c.args.self.now c.args.block.now c.requires c.if-block-self.false c.still_in-still.result c.eights_at.result c.joined.result
+    c.still_in-still.ensures c.eights_at.ensures c.joined.ensures
