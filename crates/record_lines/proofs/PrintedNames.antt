@@ -1,5 +1,5 @@
 -- The printed name of a thing that the site has is short and plain, and names that thing.
-use Rattle.std.proofs.Common.{◌≡◌, ◌∙◌, ◌<◌, ℕ, zero, suc, Bool, true, List, [], ◌∷◌, Option, Some, None, length, refl, ap, subst, arith}
+use Rattle.std.proofs.Common.{◌≡◌, ◌∙◌, ◌<◌, ℕ, zero, suc, Bool, true, List, [], ◌∷◌, Option, Some, None, length, get_or, refl, sym, ap, subst, arith}
 use Rattle.std.specs.Prelude.{nat_lt, option_map, slice_get, All}
 use Rattle.std.proofs.lemmas.Bool.{ltb-true}
 use Rattle.std.proofs.lemmas.Option.{get_or_from_slice_get, slice_get_within}
@@ -8,12 +8,14 @@ use Rattle.site_types.specs.Names.{is_name}
 use Rattle.site_types.specs.Things.{name_at, thing_named}
 use Rattle.site_types.specs.Valid.{IsOutput, IsPoint, IsValid, IsZone}
 use Rattle.site_types.specs.declared.site.Site.{Site}
+use Rattle.site_types.specs.declared.named.Named.{Named}
 use Rattle.site_types.specs.declared.named.Thing.{Thing}
 use Rattle.site_types.specs.declared.named.Thing.TheVariants.{Point as PointThing, Zone as ZoneThing, Output as OutputThing}
 use Rattle.site_types.specs.declared.point.Point.{Point as PointPlan}
 use Rattle.site_types.specs.declared.zone.Zone.{Zone as ZonePlan}
 use Rattle.site_types.specs.declared.output.Output.{Output as OutputPlan}
 use Rattle.site_types.proofs.Finding.{thing_named_iff}
+use Rattle.record_lines.specs.Events.{point_in, point_of}
 use Rattle.record_lines.specs.Printed.{known_name, name_text}
 use Rattle.line_fields.proofs.PlainFields.{is_fit, name_fit}
 
@@ -84,3 +86,15 @@ pub output_there : (site : Site) → IsValid site → (test : OutputPlan → Boo
 output_there site valid test place has =
     let there = there_with test (slice_get site.outputs place) has in
     output_named site valid place there.0 there.1
+
+-- ---- as the names tell
+
+-- the entry of a name that stands for a point tells which point has it
+pub entry_point : (site : Site) → IsValid site → (names : List Named) (place : ℕ) (named : Named) (point : ℕ) (name : List ℕ) → names ≡ site.names
+    → place < length names → named ≡ get_or names place named → named.thing ≡ PointThing point → named.name.bytes ≡ name → Some point ≡ point_of site name
+entry_point site valid names place named point name theirs within at is same =
+    let named_right : All (λ (n : Named). name_at site n.thing ≡ Some n.name.bytes) names =
+    subst (λ ns. All (λ (n : Named). name_at site n.thing ≡ Some n.name.bytes) ns) (sym theirs) valid.names.right in
+    let right = subst (λ (n : Named). name_at site n.thing ≡ Some n.name.bytes) (sym at) (named_right place named within) in
+    let has : name_at site (PointThing point) ≡ Some name = ap (name_at site) (sym is) ∙ right ∙ ap (λ (b : List ℕ). Some b) same in
+    sym (ap point_in ((thing_named_iff site valid.names name (PointThing point)).1 has))

@@ -27,6 +27,7 @@ mod form;
 mod form_words;
 mod judge;
 mod line;
+mod named_points;
 mod number_fields;
 mod order_lines;
 mod over;

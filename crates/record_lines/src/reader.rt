@@ -84,11 +84,16 @@ impl LineReader {
                 step: Step::Line(Line::Tick(tick)),
             };
         }
-        self.feed_in_tick(site, piece)
+        match piece {
+            [b'o', ..] => self.feed_order(site, piece),
+            _ => self.feed_event(site, piece),
+        }
     }
 
-    // Takes a piece that doesn't begin with the next tick, where the reader isn't over.
-    fn feed_in_tick(&mut self, site: &Site, piece: &[u8]) -> Fed
+    // Takes a piece that may begin with the tick's order, where the reader isn't over. Room for an order is made here
+    // alone.
+    #[inline(never)]
+    fn feed_order(&mut self, site: &Site, piece: &[u8]) -> Fed
         requires valid { IsValid site.now }
         requires open { self.old.over ≡ None }
         ensures feeds { (before : List ℕ) → StandsFor site.now before self.old
@@ -106,6 +111,19 @@ impl LineReader {
                 };
             }
         }
+        self.feed_any(site, piece)
+    }
+
+    // Takes a piece that may begin with what a point is at, where the reader isn't over.
+    #[inline(never)]
+    fn feed_event(&mut self, site: &Site, piece: &[u8]) -> Fed
+        requires valid { IsValid site.now }
+        requires open { self.old.over ≡ None }
+        ensures feeds { (before : List ℕ) → StandsFor site.now before self.old
+            → Feeds site.now before piece.now result self.new }
+        ensures belongs { StepBelongs site.now result.step }
+        ensures may_come { StepMayCome site.now self.old.so_far result.step }
+    {
         if let Some((used, point, state)) = self.next_report(site, piece) {
             self.begin_line();
             return Fed {
@@ -152,6 +170,7 @@ impl LineReader {
     }
 
     // Takes a piece of which nothing is known, where the reader isn't over.
+    #[inline(never)]
     fn feed_any(&mut self, site: &Site, piece: &[u8]) -> Fed
         requires valid { IsValid site.now }
         requires open { self.old.over ≡ None }

@@ -11,7 +11,7 @@ ghost use Rattle.site_types.specs.declared.event.Event.TheVariants.{Point as Poi
 ghost use Rattle.site_types.specs.declared.site.Site.{Site as SiteOf};
 ghost use Rattle.tick_units.specs.Ticks.{last_tick};
 
-use crate::event_lines::find_point;
+use crate::named_points::point_named;
 use crate::words::task;
 use arrayvec::ArrayVec;
 use line_fields::split_field;
@@ -127,7 +127,7 @@ pub fn report_in_front(site: &Site, piece: &[u8]) -> Option<(usize, u16, PointSt
         [b'p', b'o', b'i', b'n', b't', b' ', named @ ..] => {
             let (name, word) = split_field(named);
             let (used, state) = state_in_front(word)?;
-            let point = find_point(site, name)?;
+            let point = point_named(site, name)?;
             Some((7 + name.len() + used, point, state))
         }
         _ => None,
