@@ -106,7 +106,11 @@ module _ {order : List Seat} {journal : Journal} {old between : System} {place :
     behind_run : IsRun site.panels (and_turns false (drop (place + 1) order) (Kept (has_failed store) ∷ then))
     behind_run = run_behind site.panels false (has_failed store) (drop (place + 1) order) then rest_run
 
-    -- and the rest after it
+    -- the site stays what it was
+    pub same_site : old.site ≡ after.site
+    same_site = h.same ∙ sym turned.stands.same
+
+    -- and the rest may have theirs after it
     pub may_rest : MayTurnFrom order (place + 1) after
     may_rest = record {
       site = site;

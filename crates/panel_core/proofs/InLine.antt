@@ -162,7 +162,7 @@ panel_turned n old mid system a b c first second =
 
 -- ---- all panels
 
-each_both : {X : Type 0} (P : X → Type 0) (xs ys : List X) → AllByRecursion P xs → AllByRecursion P ys → AllByRecursion P (xs ++ ys)
+pub each_both : {X : Type 0} (P : X → Type 0) (xs ys : List X) → AllByRecursion P xs → AllByRecursion P ys → AllByRecursion P (xs ++ ys)
 each_both P [] ys all more = more
 each_both P (x ∷ xs) ys all more = (all.0, each_both P xs ys all.1 more)
 

@@ -13,7 +13,7 @@ use Rattle.retained_journal.proofs.Calls.{same_batch}
 use Rattle.retained_journal.proofs.NewFiles.{zeros_everywhere}
 use Rattle.keep_turn.specs.declared.store.Store.{Store}
 use Rattle.keep_turn.specs.declared.store.Store.TheVariants.{Idle, Kept as WasKept, Failed}
-use Rattle.keep_turn.specs.Turns.{AnswersTurn, MayCommit}
+use Rattle.keep_turn.specs.Turns.{AnswersTurn, MakesTurn, MayCommit}
 use Rattle.keep_batch.specs.Making.{MayMake, batch_from, count_from}
 use Rattle.keep_batch.specs.MakingLaws.{IsLeftToKeep}
 use Rattle.keep_batch.proofs.Committing.{batch_may_be_committed}
@@ -29,11 +29,12 @@ use Rattle.panel_rules.specs.Batches.{batch, kept_after, new_entries}
 use Rattle.panel_rules.specs.Operations.{operations}
 use Rattle.panel_rules.specs.Moments.{Moment, Kept, IsPanel, IsRun, tick_of}
 use Rattle.panel_rules.specs.Storing.{keep_answer}
+use Rattle.panel_parts.specs.declared.kept_counts.KeptCounts.{KeptCounts}
 use Rattle.panel_parts.specs.declared.parts.Parts.{Parts}
 use Rattle.panel_core.specs.declared.system.System.{System}
 use Rattle.panel_parts.specs.Applied.{applied, done_so_far}
 use Rattle.panel_parts.specs.Entries.{AreLeft, CountsFor, TellsEntries, counts_kept}
-use Rattle.panel_core.specs.Keeping.{KeepsRun, has_failed, store_of}
+use Rattle.panel_core.specs.Keeping.{HasKeptAll, KeepsRun, has_failed, store_of}
 use Rattle.panel_core.specs.PowerCuts.{IsLeftOver}
 use Rattle.panel_core.specs.Stands.{StandsFor}
 use Rattle.hold_calls.specs.Turns.{ring_turns}
@@ -92,7 +93,7 @@ module _ (site : Site) (kept : Retained) (before : List Moment) (system : System
       ap (λ s. batch_from s left waiting) h.same ∙ batch_is site kept before left waiting (is_left waiting same)
 
 -- where no entries are left and no request waits, it is nothing
-pub none_left : (site : Site) (left : List ℕ) (waiting : List Request) → left ≡ replicate 8 0 → (length waiting == 0) ≡ true
+none_left : (site : Site) (left : List ℕ) (waiting : List Request) → left ≡ replicate 8 0 → (length waiting == 0) ≡ true
     → batch_from site left waiting ≡ []
 none_left site left (request ∷ waiting) none idle =
     absurd (let some = eqb-true (length (request ∷ waiting)) 0 idle in omega (arith, some))
@@ -107,12 +108,25 @@ none_left site left [] none idle = rw (none) (ap (λ xs. xs ++ []) (go 1 site.pa
         ∙ go (first + 1) many
 
 -- of entries that are kept none are left
-pub none_kept : (entries kept : List ℕ) → entries ≡ kept → AreLeft entries kept (replicate 8 0)
-none_kept entries kept same k small =
-    zeros_everywhere 8 k ∙ sym (none_more (slice_index entries k) (slice_index kept k) (ap (λ xs. slice_index xs k) same))
+none_kept : (entries : List ℕ) → AreLeft entries entries (replicate 8 0)
+none_kept entries k small = zeros_everywhere 8 k ∙ sym (none_more (slice_index entries k))
   where
-    none_more : (a b : ℕ) → a ≡ b → a - b ≡ 0
-    none_more a b e = omega (arith, e)
+    none_more : (a : ℕ) → a - a ≡ 0
+    none_more a = omega arith
+
+-- where all is kept a turn with nothing to commit is one with the batch of the rules
+module _ {D : Type 0} {honest : D → Type 0} {images : D → List ℕ → Type 0} {moment : D → ℕ} {left_since : D → ℕ → List ℕ → Type 0}
+    {faults : D → ℕ} {disk disk' : D} {old new : Journal} {store : Store} where
+  pub made_nothing : (site : Site) (kept : Retained) (before : List Moment) (system : System) → StandsFor site kept before system
+      → IsRun site.panels before → tick_of before ≤ last_tick → HasKeptAll system
+      → MakesTurn honest images moment left_since faults disk disk' [] old store new
+      → MakesTurn honest images moment left_since faults disk disk' (batch site kept before) old store new
+  made_nothing site kept before system h run few all =
+      let left = replicate 8 0 in
+      let waiting = system.desk.waiting.items in
+      subst (λ changes. MakesTurn honest images moment left_since faults disk disk' changes old store new)
+      (sym (none_left system.site left waiting refl (ap (λ (ws : List Request). length ws == 0) all.waits))
+      ∙ left_batch site kept before system h run few system.counts.entries left all.entries (none_kept system.counts.entries) waiting refl)
 
 -- and the journal can keep it
 pub can_commit : (site : Site) (kept : Retained) (before : List Moment) (system : System) (journal : Journal) (changes : List Change)
@@ -186,3 +200,23 @@ module _ (site : Site) (kept : Retained) (before : List Moment) (system : System
   noted false desk entries journal told turned keeps takes =
       keep_turn site kept before system h false desk (record { entries = entries; counters = journal.kept.counters }) turned takes
       (counts_noted entries journal told keeps)
+
+-- where nothing was to be committed, what is kept of the counts stays
+counts_as_kept : (store : Store) (counts : KeptCounts) (old new : Journal) → AnswersTurn [] old store new
+    → counts.counters ≡ old.kept.counters → counts_kept (has_failed store) counts.entries new.kept counts ≡ counts
+counts_as_kept Idle counts old new a same =
+    ap (λ cs. record counts { counters = cs }) (ap (λ (k : Retained). k.counters) a.1 ∙ sym same)
+counts_as_kept WasKept counts old new a same = absurd (a.0 refl)
+counts_as_kept Failed counts old new a same = refl
+
+-- so the desk alone changes
+pub kept_nothing : (site : Site) (kept : Retained) (before : List Moment) (system : System) → StandsFor site kept before system
+    → IsRun site.panels before → HasKeptAll system → (store : Store) (old new : Journal) (desk : Desk) → AnswersTurn [] old store new
+    → old.kept ≡ kept_after site kept before → new.kept ≡ kept_after site kept (Kept (has_failed store) ∷ before)
+    → IsRun site.panels (Kept (has_failed store) ∷ before)
+    → (DesksFor site kept before system.desk → MayTakeKeepTurn site (has_failed store) before → DesksFor site kept (Kept (has_failed store) ∷ before) desk)
+    → StandsFor site kept (Kept (has_failed store) ∷ before) (record system { desk = desk })
+kept_nothing site kept before system h run all store old new desk turned then now may takes =
+    subst (λ counts. StandsFor site kept (Kept (has_failed store) ∷ before) (record system { desk = desk; counts = counts }))
+    (counts_as_kept store system.counts old new turned (h.counts.counters ∙ ap (λ (k : Retained). k.counters) (sym then)))
+    (noted site kept before system h run (has_failed store) desk system.counts.entries new all.entries may now takes)

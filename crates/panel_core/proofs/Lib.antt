@@ -10,6 +10,7 @@ pub mod Events
 pub mod Orders
 pub mod StepsCounted
 pub mod InLine
+pub mod Backwards
 pub mod Fronts
 pub mod AllTurns
 pub mod Begun

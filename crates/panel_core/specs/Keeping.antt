@@ -80,6 +80,11 @@ pub record MayKeep (journal : Journal) (system : System) : Type 0 where
   pub few : tick_of before ≤ last_tick
   pub tried : journal.tried ≤ last_tick
 
+-- all entries are kept, and no operation waits for Keep
+pub record HasKeptAll (system : System) : Type 0 where
+  pub entries : TellsEntries system.panels.items system.counts.entries
+  pub waits : system.desk.waiting.items ≡ []
+
 -- Keep had its turn
 abbrev pub KeepsTurn : System → Journal → Store → Journal → System → Type 0
 KeepsTurn old journal store journal' system =

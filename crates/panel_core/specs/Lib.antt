@@ -2,6 +2,7 @@
 pub mod Stands
 pub mod Heard
 pub mod Changes
+pub mod OrderForms
 pub mod StepCounts
 -- the journal: what a turn of Keep commits, and what a power cut leaves
 pub mod Keeping

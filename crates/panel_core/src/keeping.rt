@@ -1,4 +1,4 @@
-ghost use Rattle.std.specs.Prelude.{◌≡◌};
+ghost use Rattle.std.specs.Prelude.{◌≡◌, ◌≤◌, length};
 ghost use Rattle.retained_journal.specs.Images.{Stands};
 ghost use Rattle.keep_turn.specs.Turns.{LeavesJournal};
 
@@ -11,7 +11,7 @@ use retained_journal::Journal;
 
 impl System {
     ghost use Rattle.panel_parts.specs.Entries.{TellsEntries};
-    ghost use Rattle.panel_core.specs.Keeping.{KeepsLeft, KeepsTurn, LeavesWithBatch, MayKeep};
+    ghost use Rattle.panel_core.specs.Keeping.{HasKeptAll, KeepsLeft, KeepsTurn, LeavesWithBatch, MayKeep};
     ghost use Rattle.panel_core.specs.Keeping.{MayNoteKept, NotesKept};
     ghost use Rattle.panel_core.specs.Marks.{MarksKept};
 
@@ -26,8 +26,58 @@ impl System {
         ensures moments { D.honest disk.old
             → LeavesWithBatch D.moment D.left_since disk.old disk.new self.old journal.old }
     {
+        if self.has_kept_all() {
+            self.keep_nothing(journal, disk)
+        } else {
+            self.keep_left(journal, disk)
+        }
+    }
+
+    // Whether all entries are kept and no operation waits.
+    fn has_kept_all(&self) -> bool
+        requires { length self.now.panels.items ≤ 8 }
+        ensures { result ≡ true → HasKeptAll self.now }
+    {
+        let panels = self.panels.as_slice();
+        for place in 0..panels.len() {
+            if panels[place].hold.counter_entries() != self.counts.entries[place] {
+                return false;
+            }
+        }
+        self.desk.waiting().is_empty()
+    }
+
+    // A turn that has nothing to keep: neither a counter nor what a panel shows changes.
+    fn keep_nothing<D: Disk>(&mut self, journal: &mut Journal, disk: &mut D) -> Store
+        requires may { MayKeep journal.old self.old }
+        requires stands { Stands D.honest D.images disk.old journal.old }
+        requires all { HasKeptAll self.old }
+        ensures kept { KeepsTurn self.old journal.old result journal.new self.new }
+        ensures marks { MarksKept self.old journal.old result self.new.changed }
+        ensures leaves { LeavesJournal D.honest D.images D.faults disk.old disk.new journal.old
+            result journal.new }
+        ensures moments { D.honest disk.old
+            → LeavesWithBatch D.moment D.left_since disk.old disk.new self.old journal.old }
+    {
+        let store = idle_turn(journal, disk);
+        self.desk.keep(has_failed(store));
+        store
+    }
+
+    // What is left to keep is committed and noted.
+    #[cold]
+    fn keep_left<D: Disk>(&mut self, journal: &mut Journal, disk: &mut D) -> Store
+        requires may { MayKeep journal.old self.old }
+        requires stands { Stands D.honest D.images disk.old journal.old }
+        ensures kept { KeepsTurn self.old journal.old result journal.new self.new }
+        ensures marks { MarksKept self.old journal.old result self.new.changed }
+        ensures leaves { LeavesJournal D.honest D.images D.faults disk.old disk.new journal.old
+            result journal.new }
+        ensures moments { D.honest disk.old
+            → LeavesWithBatch D.moment D.left_since disk.old disk.new self.old journal.old }
+    {
         let entries = entries_of(self.panels.as_slice());
-        let store = self.keep_left(&entries, journal, disk);
+        let store = self.commit_left(&entries, journal, disk);
         let counters = self.counts.counters;
         self.note_kept(store, &entries, journal);
         let now_kept = self.counts.counters;
@@ -35,23 +85,7 @@ impl System {
         store
     }
 
-    // What is left to keep is committed.
-    fn keep_left<D: Disk>(&self, entries: &[u64; 8], journal: &mut Journal, disk: &mut D) -> Store
-        requires may { MayKeep journal.old self.now }
-        requires stands { Stands D.honest D.images disk.old journal.old }
-        requires told { TellsEntries self.now.panels.items entries.now }
-        ensures { KeepsLeft D.honest D.images D.moment D.left_since D.faults disk.old disk.new
-            self.now journal.old result journal.new }
-    {
-        if are_kept(entries, &self.counts.entries) && self.desk.waiting().is_empty() {
-            idle_turn(journal, disk)
-        } else {
-            self.commit_left(entries, journal, disk)
-        }
-    }
-
-    // What is left to keep, where there is anything, is committed: here alone room is made for a batch.
-    #[cold]
+    // What is left to keep is committed: here alone room is made for a batch.
     fn commit_left<D: Disk>(&self, entries: &[u64; 8], journal: &mut Journal, disk: &mut D) -> Store
         requires may { MayKeep journal.old self.now }
         requires stands { Stands D.honest D.images disk.old journal.old }
@@ -93,10 +127,4 @@ fn are_same(counters: &[u32; 8], others: &[u32; 8]) -> bool
     ensures { result ≡ true → counters.now ≡ others.now }
 {
     counters == others
-}
-
-fn are_kept(entries: &[u64; 8], kept: &[u64; 8]) -> bool
-    ensures { result ≡ true → entries.now ≡ kept.now }
-{
-    entries == kept
 }
