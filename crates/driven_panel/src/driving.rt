@@ -9,7 +9,7 @@ use crate::installation::Installation;
 use anyhow::{Result, bail};
 use cause_effect::{Steps, compile};
 use face_text::Face;
-use panel_core::{Store, System};
+use panel_core::{OrderForm, Store, System};
 use panel_edges::MemoryDisk;
 use retained_journal::Journal;
 use site_types::{Event, Retained, Site};
@@ -115,8 +115,13 @@ fn turn_counted<L: Ledger>(own: &mut Installation, panels: u8, order: &Order, bl
     ensures { IsBetween panels own.new }
 {
     let mut steps: Steps<L> = Steps::new(blank);
-    own.system
-        .turns(order, false, &mut own.journal, &mut own.disk, &mut steps)
+    own.system.turns(
+        order,
+        OrderForm::Any,
+        &mut own.journal,
+        &mut own.disk,
+        &mut steps,
+    )
 }
 
 /// All that a panel shows.

@@ -1,5 +1,6 @@
 -- One tick of a drill, step by step.
 use Rattle.std.proofs.Common.{◌≡◌, ◌∙◌, ◌+◌, ◌-◌, ◌*◌, ◌^◌, ◌<◌, ◌≤◌, ℕ, suc, Bool, true, false, List, ◌∷◌, length, ap, arith, lit<, refl, subst, sym}
+use Rattle.std.specs.Prelude.{reverse}
 use Rattle.tick_units.specs.Orders.{IsOrder, canonical_seats}
 use Rattle.tick_units.specs.Ticks.{last_tick}
 use Rattle.site_types.specs.declared.site.Site.{Site}
@@ -104,6 +105,7 @@ module _ (site : Site) (seed n : ℕ) where
           ordered = subst (IsOrder site.panels) (sym same_order) (drawn_order site.panels drawn.reversed);
           run = turns_run drawn own drew same_order;
           canonical = canonical ∙ h.canonical ∙ ap (λ (s : Site). canonical_seats s.panels) (sym stands.same);
+          reversed = backwards ∙ h.reversed ∙ ap (λ (s : Site). reverse (canonical_seats s.panels)) (sym stands.same);
           few = told_tick drawn drew few;
           tried = omega (arith, tried, same, few);
         }

@@ -9,7 +9,7 @@ ghost use Rattle.site_types.specs.Valid.{IsValid};
 
 use cause_effect::{Plan, Steps};
 use drill_record::{Drawer, reversed_order};
-use panel_core::{Store, System};
+use panel_core::{OrderForm, Store, System};
 use panel_edges::SoundMemoryDisk;
 use retained_journal::Journal;
 use site_types::{Event, Retained, Site};
@@ -85,7 +85,7 @@ impl Running {
         if reversed {
             self.system.turns(
                 &self.reversed,
-                false,
+                OrderForm::Reversed,
                 &mut self.journal,
                 &mut self.disk,
                 &mut steps,
@@ -93,7 +93,7 @@ impl Running {
         } else {
             self.system.turns(
                 &self.canonical,
-                true,
+                OrderForm::Canonical,
                 &mut self.journal,
                 &mut self.disk,
                 &mut steps,
