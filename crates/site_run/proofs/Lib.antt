@@ -10,6 +10,7 @@ pub mod Faces
 pub mod SameFaces
 pub mod Answered
 pub mod Closing
+pub mod Untold
 pub mod Written
 -- a run step by step: what it stands for, what it leaves on the journal's disk, and what a power cut leaves of that
 pub mod Stood

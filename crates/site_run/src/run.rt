@@ -27,11 +27,11 @@ ghost use Rattle.site_types.specs.declared.retained.Retained.{Retained as Retain
 ghost use Rattle.site_types.specs.declared.site.Site.{Site as SiteOf};
 
 use crate::sized::note_sized;
-use crate::tick_faces::TickFaces;
-use crate::writing::{PAGE_BYTES, TickPage, write_opening};
+use crate::tick_faces::{TickFaces, are_alike};
+use crate::writing::{PAGE_BYTES, TickPage, has_answers, write_opening};
 use cause_effect::{Plan, Steps};
 use face_text::{Face, Starts};
-use panel_core::{Store, System};
+use panel_core::{OrderForm, Store, System};
 use panel_edges::{Disk, Failed, NoMemory, Sink, SoundMemorySink};
 use retained_journal::Journal;
 use site_types::{Event, Site};
@@ -221,6 +221,27 @@ impl Run {
         ensures left { K.left out.new ≡ K.left out.old }
         ensures reads { K.read_faults out.new ≡ K.read_faults out.old }
     {
+        if are_alike(&self.alike, self.shown.as_slice().len())
+            && !has_answers(self.system.answers())
+        {
+            return Ok(());
+        }
+        self.write_page(out)
+    }
+
+    // So, with a look at the faces.
+    #[inline(never)]
+    fn write_page<K: Sink>(&mut self, out: &mut K) -> Result<(), Failed>
+        requires { HasFaces self.old }
+        ensures ok { OnOk result
+            (TellsTick (Grows (K.written out.old) (K.written out.new)) self.old) }
+        ensures err { OnErr result
+            (TellsTick (GrowsByFront (K.written out.old) (K.written out.new)) self.old) }
+        ensures rest { self.new ≡ record self.old { page = self.new.page } }
+        ensures cause { HasCause (K.write_faults out.old) (K.write_faults out.new) result }
+        ensures left { K.left out.new ≡ K.left out.old }
+        ensures reads { K.read_faults out.new ≡ K.read_faults out.old }
+    {
         let page = TickPage {
             tick: self.ticks,
             faces: TickFaces {
@@ -286,10 +307,14 @@ impl Run {
         match &self.order {
             Some(order) => self
                 .system
-                .turns(order, false, &mut self.journal, disk, &mut steps),
-            None => self
-                .system
-                .turns(&self.canonical, true, &mut self.journal, disk, &mut steps),
+                .turns(order, OrderForm::Any, &mut self.journal, disk, &mut steps),
+            None => self.system.turns(
+                &self.canonical,
+                OrderForm::Canonical,
+                &mut self.journal,
+                disk,
+                &mut steps,
+            ),
         }
     }
 }

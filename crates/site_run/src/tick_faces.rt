@@ -5,6 +5,7 @@ ghost use Rattle.face_text.specs.Holding.{Puts};
 ghost use Rattle.face_text.specs.Starts.{ArePassed};
 ghost use Rattle.face_text.specs.Timelines.{faces_text};
 ghost use Rattle.panel_edges.specs.Faults.{HasCause};
+ghost use Rattle.site_run.specs.AlikeFaces.{AllAlike};
 ghost use Rattle.site_run.specs.Pages.{AreTellable};
 
 use face_text::{Face, Held, Starts, push_changes};
@@ -90,6 +91,18 @@ impl TickFaces<'_> {
         }
         push_changes(self.site, self.starts, before, after, held, out)
     }
+}
+
+/// Whether each of so many panels is known to show the same before and after.
+pub(crate) fn are_alike(alike: &[bool; 8], panels: usize) -> bool
+    ensures { result ≡ true → AllAlike alike.now panels }
+{
+    for place in 0..panels {
+        if !is_alike(alike, place) {
+            return false;
+        }
+    }
+    true
 }
 
 fn is_alike(alike: &[bool; 8], place: usize) -> bool

@@ -110,7 +110,8 @@ impl TickPage<'_> {
     }
 }
 
-fn has_answers(answers: &Answers) -> bool
+/// Whether something was answered, an operation found its panel busy, or Keep's turn failed.
+pub(crate) fn has_answers(answers: &Answers) -> bool
     ensures { result ≡ has_answers_told answers.now }
 {
     !answers.ops.as_slice().is_empty() || has_busy(&answers.busy) || answers.failed

@@ -10,10 +10,7 @@ turns-requires-clause-may g c = rw c.in-Some.is at (may_turn c.args.self.now c.r
 pub turns-requires-in-None-clause-may : goal.turns-requires-in-None-clause-may
 turns-requires-in-None-clause-may g c = rw c.in-None.is at (may_turn c.args.self.now c.requires.may)
 
-pub turns-requires-clause-canonical : goal.turns-requires-clause-canonical
-turns-requires-clause-canonical g c is = absurd cc
-
-pub turns-requires-in-None-clause-canonical : goal.turns-requires-in-None-clause-canonical
-turns-requires-in-None-clause-canonical g c is =
+pub turns-requires-in-None-clause-form : goal.turns-requires-in-None-clause-form
+turns-requires-in-None-clause-form g c =
     let r = c.requires.may in
     r.stands.canonical ∙ ap (λ (s : Site). canonical_seats s.panels) (sym r.stands.system.same)
