@@ -91,6 +91,31 @@ value_more text place value within is =
     ap (value_after 0) (take_more text place 0 within) ∙ value_push 0 (take place text) (get_or text place 0)
     ∙ ap (λ v. 10 * v + (get_or text place 0 - 48)) is
 
+-- the greatest number of so many digits
+abbrev pub nines : ℕ → ℕ
+nines zero = 0
+nines (suc digits) = 10 * nines digits + 9
+
+nines_rise : (digits more : ℕ) → digits ≤ more → nines digits ≤ nines more
+nines_rise zero more le = let least : 0 ≤ nines more = omega arith in least
+nines_rise (suc digits) zero le = absurd (omega (arith, le))
+nines_rise (suc digits) (suc more) le =
+    let before = nines_rise digits more (omega (arith, le)) in
+    let next : 10 * nines digits + 9 ≤ 10 * nines more + 9 = omega (arith, before) in
+    next
+
+-- a number with one more digit
+pub one_digit_more : (digits number : ℕ) → number ≤ 10 * nines digits + 9 → number ≤ nines (digits + 1)
+one_digit_more digits number le =
+    let more : digits + 1 ≡ suc digits = omega arith in
+    subst (λ n. number ≤ nines n) (sym more) le
+
+-- a number of up to ten digits has room for one more
+pub digit_fits : (digits value : ℕ) → digits ≤ 10 → value ≤ nines digits → 10 * value + 9 < 2 ^ 64
+digit_fits digits value few small =
+    let ten : nines digits ≤ 9999999999 = nines_rise digits 10 few in
+    omega (arith, small, ten)
+
 number_begins : (text : List ℕ) (place : ℕ) → 48 < get_or text 0 0 → get_or text place 0 ≡ 10 → begins_as_number (take place text) ≡ true
 number_begins [] place first end = absurd (omega arith)
 number_begins (byte ∷ rest) zero first end = absurd (omega (arith, first, end))

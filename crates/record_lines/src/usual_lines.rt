@@ -38,19 +38,21 @@ fn number_in_front(text: &[u8], number: u64) -> Option<usize>
     let [b'1'..=b'9', ..] = text else {
         return None;
     };
+    // No tick's number has more than ten digits.
+    let room = text.len().min(11);
     let mut value = 0;
-    for (place, byte) in text.iter().enumerate() {
+    let mut place = 0;
+    while place < room {
+        let byte = text[place];
         if !byte.is_ascii_digit() {
-            return if *byte == b'\n' && value == number {
+            return if byte == b'\n' && value == number {
                 Some(place + 1)
             } else {
                 None
             };
         }
-        if value > number {
-            return None;
-        }
-        value = 10 * value + (*byte - b'0') as u64;
+        value = 10 * value + (byte - b'0') as u64;
+        place += 1;
     }
     None
 }
