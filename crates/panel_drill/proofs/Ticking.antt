@@ -105,7 +105,7 @@ module _ (site : Site) (seed n : ℕ) where
           ordered = subst (IsOrder site.panels) (sym same_order) (drawn_order site.panels drawn.reversed);
           run = turns_run drawn own drew same_order;
           canonical = canonical ∙ h.canonical ∙ ap (λ (s : Site). canonical_seats s.panels) (sym stands.same);
-          reversed = backwards ∙ h.reversed ∙ ap (λ (s : Site). reverse (canonical_seats s.panels)) (sym stands.same);
+          turned = backwards ∙ h.reversed ∙ ap (λ (s : Site). reverse (canonical_seats s.panels)) (sym stands.same);
           few = told_tick drawn drew few;
           tried = omega (arith, tried, same, few);
         }

@@ -93,7 +93,7 @@ pub record MayRunTurns (reversed : Bool) (own : Running) : Type 0 where
   pub ordered : IsOrder site.panels (order_in reversed own)
   pub run : IsRun site.panels (and_turns false (order_in reversed own) before)
   pub canonical : own.canonical ≡ canonical_seats own.system.site.panels
-  pub reversed : own.reversed ≡ reverse (canonical_seats own.system.site.panels)
+  pub turned : own.reversed ≡ reverse (canonical_seats own.system.site.panels)
   pub few : tick_of before ≤ last_tick
   pub tried : own.journal.tried ≤ last_tick
 

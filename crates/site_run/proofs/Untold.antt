@@ -10,7 +10,7 @@ use Rattle.panel_edges.proofs.Growing.{grows_none}
 use Rattle.site_run.specs.declared.run.Run.{Run}
 use Rattle.site_run.specs.Acting.{HasFaces, TellsTick}
 use Rattle.site_run.specs.AlikeFaces.{AllAlike, ShowAlike}
-use Rattle.site_run.specs.Pages.{has_answers, is_told, page_text, written_text}
+use Rattle.site_run.specs.Pages.{has_answers, page_text, written_text}
 use Rattle.site_run.proofs.Closing.{tells_tick}
 use Rattle.site_run.proofs.SameFaces.{none_differ, same_lists}
 
