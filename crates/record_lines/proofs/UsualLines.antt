@@ -6,7 +6,7 @@ use Rattle.std.specs.List.{AllByRecursion, list_all}
 use Rattle.std.proofs.Math.Seq.{take-add, take-append-add}
 use Rattle.std.proofs.lemmas.Bool.{and_from, and_parts, eqb-true, leb-true, lt-ltb, ne_eqb, not_from_false}
 use Rattle.std.proofs.lemmas.Fmt.{decimal_digit}
-use Rattle.std.proofs.lemmas.List.{drop-drop, get_or-drop, get_or-take, length-drop, length-take, length-take-le, map-append, take-append-drop, take_at, take_more}
+use Rattle.std.proofs.lemmas.List.{drop-drop, get_or-drop, get_or-take, length-drop, length-take, length-take-le, map-append, take-append-drop, take-take, take_at, take_more}
 use Rattle.std.proofs.lemmas.Option.{same_Some, slice_get_within}
 use Rattle.line_fields.specs.Words.{value_beside_letter}
 use Rattle.site_types.specs.Numbers.{all_digits, begins_as_number, is_digit, number_of, value_after}
@@ -63,6 +63,21 @@ behind_front front line piece used is begins =
           take-add (length front) used piece ∙ ap (λ t. t ++ take used (drop (length front) piece)) is ∙ ap (λ t. front ++ t) begins.front ∙ sym
           (append_assoc front line (10 ∷ []));
     }
+
+-- a text that stands in a front of a piece
+in_front_of_more : (line piece : List ℕ) (count used : ℕ) → HasInFront line (take count piece) used → HasInFront line piece used
+in_front_of_more line piece count used begins =
+    let all = begins.all in
+    let whole = ap length begins.front in
+    let within : used ≤ count =
+    omega (arith, all, whole, length-append line (10 ∷ []), length-take used (take count piece), length-take count piece) in
+    record { all = all; front = sym (take-take used count piece within) ∙ begins.front }
+
+pub found_in_front : (line piece front : List ℕ) (count : ℕ) → front ≡ take count piece → (found : Option ℕ)
+    → IfSome found (λ used. HasInFront line front used) → IfSome found (λ used. HasInFront line piece used)
+found_in_front line piece front count is None begins = tt
+found_in_front line piece front count is (Some used) begins =
+    in_front_of_more line piece count used (subst (λ t. HasInFront line t used) is begins)
 
 -- ---- numbers
 

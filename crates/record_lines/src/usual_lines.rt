@@ -35,10 +35,22 @@ fn number_in_front(text: &[u8], number: u64) -> Option<usize>
     requires { number ≤ last_tick }
     ensures { IfSome result (λ used. HasInFront (decimal number) text.now used) }
 {
+    match text.first_chunk::<11>() {
+        // So many bytes are at hand that the loop over the digits needs no look at the end.
+        Some(front) => digits_in_front(front, number),
+        None => digits_in_front(text, number),
+    }
+}
+
+// So, with a look at eleven bytes at most: no tick's number has more than ten digits.
+#[inline(always)]
+fn digits_in_front(text: &[u8], number: u64) -> Option<usize>
+    requires { number ≤ last_tick }
+    ensures { IfSome result (λ used. HasInFront (decimal number) text.now used) }
+{
     let [b'1'..=b'9', ..] = text else {
         return None;
     };
-    // No tick's number has more than ten digits.
     let room = text.len().min(11);
     let mut value = 0;
     let mut place = 0;

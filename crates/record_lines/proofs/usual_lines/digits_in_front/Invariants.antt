@@ -1,7 +1,7 @@
 use Rattle.std.proofs.Common.{◌≡◌, ◌≤◌, ◌-◌, true, take}
 use Rattle.site_types.specs.Numbers.{all_digits, value_after}
 use Rattle.record_lines.proofs.UsualLines.{nines}
-use Rattle.record_lines.proofs.usual_lines.number_in_front.Given as goal
+use Rattle.record_lines.proofs.usual_lines.digits_in_front.Given as goal
 
 abbrev pub decreases-loop-place : goal.decreases-loop-place
 decreases-loop-place l = l.room - l.place
